@@ -1,0 +1,15 @@
+pub mod Scalars
+pub mod RowLaws
+pub mod Turns
+pub mod Actions
+pub mod Products
+pub mod Vanishing
+pub mod Mixed
+pub mod Fills
+pub mod Steps
+pub mod Homs
+pub mod Images
+pub mod Residues
+pub mod Theorem
+pub mod Below
+pub mod Inverses

@@ -1,1 +1,10 @@
 pub mod Refusals
+pub mod Ring
+pub mod Rows
+pub mod Integers
+pub mod Images
+pub mod Laws
+pub mod Modular
+pub mod Residues
+pub mod Engines
+pub mod Powers
