@@ -13,3 +13,4 @@ pub mod Residues
 pub mod Theorem
 pub mod Below
 pub mod Inverses
+pub mod WholeProducts

@@ -41,7 +41,7 @@ module _ {C : Type 0} (R : CommRing C) where
   plus-left-comm a b c = sym (plus-assoc a b c) ∙ ap (λ w. plus R w c) (plus-comm a b) ∙ plus-assoc b a c
 
   pub plus-medial : (a b c d : List C) → plus R (plus R a b) (plus R c d) ≡ plus R (plus R a c) (plus R b d)
-  plus-medial a b c d = simp (plus-assoc, plus-comm, plus-left-comm)
+  plus-medial a b c d = simp (plus-assoc, plus-left-comm)
 
   pub times-plus : (k : C) (a b : List C) → times R k (plus R a b) ≡ plus R (times R k a) (times R k b)
   unfolding plus times

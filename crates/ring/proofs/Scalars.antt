@@ -16,7 +16,7 @@ module _ {C : Type 0} (R : CommRing C) where
   add-mul x y z = simp (R .mul-comm, R .mul-add)
 
   pub medial : (a b c d : C) → R .add (R .add a b) (R .add c d) ≡ R .add (R .add a c) (R .add b d)
-  medial a b c d = simp (R .add-assoc, R .add-comm, add-left-comm)
+  medial a b c d = simp (R .add-assoc, add-left-comm)
 
   pub one-mul : (x : C) → R .mul (R .one) x ≡ x
   one-mul x = R .mul-comm _ _ ∙ R .mul-one x

@@ -8,3 +8,4 @@ pub mod Modular
 pub mod Residues
 pub mod Engines
 pub mod Powers
+pub mod Wholes

@@ -1,6 +1,7 @@
 // The laws of the ring product, for every kind of coefficient and every n, as contracts.
 ghost use Rattle.ring.specs.Integers.{integers};
 ghost use Rattle.ring.specs.Laws.{Carries, Laws};
+ghost use Rattle.ring.specs.Wholes.{Wholes};
 use crate::coefficient::Coefficient;
 
 // The product of rows keeps the laws of the ring, and is the only one that does.
@@ -16,4 +17,9 @@ pub fn laws_stand_whole()
 // Ring maps between two kinds of coefficient carry products to products.
 pub fn maps_carry<C: Coefficient, D: Coefficient>()
     ensures { λ _. ⌜ Carries (C·Coefficient .ring) (D·Coefficient .ring) ⌝ }
+{}
+
+// What an engine multiplies is what the whole numbers multiply, reduced by its modulus.
+pub fn engines_reduce()
+    ensures { λ _. ⌜ Wholes ⌝ }
 {}
