@@ -1,0 +1,15 @@
+pub mod Multiples
+pub mod FoldLaws
+pub mod Squares
+pub mod Computed
+pub mod WordLaws
+pub mod Bests
+pub mod DistanceLaws
+pub mod Searches
+pub mod Shifts
+pub mod RootLaws
+pub mod MessageLaws
+pub mod RowLaws
+pub mod Greatest
+pub mod Agreement
+pub mod Decoding

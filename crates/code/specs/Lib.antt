@@ -1,0 +1,9 @@
+pub mod Widths
+pub mod Folds
+pub mod Words
+pub mod Distances
+pub mod Roots
+pub mod Messages
+pub mod Rows
+pub mod Tries
+pub mod Laws

@@ -1,0 +1,60 @@
+// What one place of an octet, or a pair of places, adds to the squared distance from a word, for each bit that the word may have there.
+ghost use mathlib.Core.Path.{_≡_};
+ghost use mathlib.Core.Bool.{cond};
+ghost use Prim.Native.Nat.{_+_, _*_, _≤_};
+ghost use lib.Dec.{eqb};
+ghost use Rattle.code.specs.Widths.{radius};
+ghost use Rattle.code.specs.Distances.{cost};
+use crate::fold::fold;
+use crate::width::Width;
+
+// The cost of the bit 0 and that of the bit 1.
+#[derive(Clone, Copy)]
+pub struct Costs {
+    pub zero: u32,
+    pub one: u32,
+}
+
+fn square(n: u32) -> u32
+    requires { ⌜ n ≤ 1024 ⌝ }
+    ensures value { λ r. ⌜ r ≡ n * n ⌝ }
+    ensures small { λ r. ⌜ r ≤ 1048576 ⌝ }
+{
+    n * n
+}
+
+// The magnitudes of the folds of x and of x - R add up to R.
+pub fn place_costs(x: i32, width: Width) -> Costs
+    ensures zero { λ c. ⌜ c .zero ≡ cost (radius (width .bits)) x 0 ⌝ }
+    ensures one { λ c. ⌜ c .one ≡ cost (radius (width .bits)) x 1 ⌝ }
+    ensures small { λ c. ⌜ c .zero ≤ 1048576 ⌝ ∗ ⌜ c .one ≤ 1048576 ⌝ }
+{
+    let n = fold(x, width).unsigned_abs();
+    Costs {
+        zero: square(n),
+        one: square(width.radius() - n),
+    }
+}
+
+// Both places of the pair have the same bit.
+pub fn pair_costs(a: i32, b: i32, width: Width) -> Costs
+    ensures zero { λ c. ⌜ c .zero ≡ cost (radius (width .bits)) a 0 + cost (radius (width .bits)) b 0 ⌝ }
+    ensures one { λ c. ⌜ c .one ≡ cost (radius (width .bits)) a 1 + cost (radius (width .bits)) b 1 ⌝ }
+    ensures small { λ c. ⌜ c .zero ≤ 2097152 ⌝ ∗ ⌜ c .one ≤ 2097152 ⌝ }
+{
+    let x = place_costs(a, width);
+    let y = place_costs(b, width);
+    Costs {
+        zero: x.zero + y.zero,
+        one: x.one + y.one,
+    }
+}
+
+// The cost of a bit of a word.
+pub fn pick(costs: Costs, bit: u8) -> u32
+    requires { ⌜ costs .zero ≤ 2097152 ⌝ ∗ ⌜ costs .one ≤ 2097152 ⌝ }
+    ensures value { λ r. ⌜ r ≡ cond (eqb bit 0) (costs .zero) (costs .one) ⌝ }
+    ensures small { λ r. ⌜ r ≤ 2097152 ⌝ }
+{
+    if bit == 0 { costs.zero } else { costs.one }
+}

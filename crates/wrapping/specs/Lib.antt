@@ -1,0 +1,6 @@
+pub mod Secrets
+pub mod Wraps
+pub mod Exact
+pub mod Joins
+pub mod Trims
+pub mod Laws

@@ -1,0 +1,2 @@
+// Wrapped messages as rows of coefficients: wrapping, joining, trimming, and what noise does to them.
+pub mod noise;
