@@ -10,7 +10,7 @@ use Rattle.ring.specs.Ring.{CommRing}
 use Rattle.ring.specs.Rows.{plus, times, add-into, zeros, bump, top, turn, turned, product}
 use Rattle.ring.proofs.RowLaws as r
 use Rattle.ring.proofs.Turns as t
-use Rattle.ring.proofs.Mixed.{mixed, mixed-read, mixed-put}
+use Rattle.ring.proofs.Mixed.{mixed, mixed-read, mixed-set}
 
 module _ {C : Type 0} (R : CommRing C) where
   -- a row turned by one place
@@ -93,18 +93,18 @@ module _ {C : Type 0} (R : CommRing C) where
   add-made old row k i target x y m p here within so-far x-is y-is m-is p-is =
       let new = add-into R old k row in
       let l : length new ≡ length old = length-add-into old k row in
-      let x-old : x ≡ getD old i (R .zero) = x-is ∙ ap (λ w. getD w i x) so-far ∙ mixed-read i new old x l ∙ getD-default old i x (R .zero) here in
+      let x-old : x ≡ getD old i (R .zero) = x-is ∙ ap (λ w. getD w i x) so-far ∙ mixed-read i new old x ∙ getD-default old i x (R .zero) here in
       let y-row : y ≡ getD row i (R .zero) = y-is ∙ getD-default row i y (R .zero) within in
       let p-new : p ≡ getD new i (R .zero) =
       p-is ∙ ap₂ (R .add) x-old (m-is ∙ ap (R .mul k) y-row) ∙ sym (getD-add-into old k row i here within) in
-      ap (λ w. set w i p) so-far ∙ mixed-put i new old p l (p-new ∙ getD-default new i (R .zero) p (omega arith))
+      ap (λ w. set w i p) so-far ∙ mixed-set i new old p (omega arith) (p-new ∙ getD-default new i (R .zero) p (omega arith))
 
   -- one place more is zero
   pub zero-made : (n : ℕ) (old out : List C) (i : ℕ) (z : C) → length old ≡ n → i < n → out ≡ mixed i (zeros R n) old → z ≡ R .zero
       → set out i z ≡ mixed (i + 1) (zeros R n) old
   zero-made n old out i z l within so-far z-is =
       ap (λ w. set w i z) so-far
-      ∙ mixed-put i (zeros R n) old z (length-replicate n (R .zero) ∙ sym l) (z-is ∙ sym (getD-replicate n i (R .zero) z within))
+      ∙ mixed-set i (zeros R n) old z (omega (arith, length-replicate n (R .zero))) (z-is ∙ sym (getD-replicate n i (R .zero) z within))
 
   -- Horner's step
   pub horner-made : (n : ℕ) (a b out after next : List C) (i : ℕ) (x : C) → 0 < n → length out ≡ n → 0 < i → i ≤ length a

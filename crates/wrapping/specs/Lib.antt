@@ -3,4 +3,5 @@ pub mod Wraps
 pub mod Exact
 pub mod Joins
 pub mod Trims
+pub mod Buffers
 pub mod Laws

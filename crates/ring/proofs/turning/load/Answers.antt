@@ -10,7 +10,7 @@ pub loop-i-holds : need.loop-i-holds
 loop-i-holds g c = mixed-none _ _
 
 pub loop-i-again : need.loop-i-again
-loop-i-again g c = mapped-put (reduced (g .LAST)) (c .args .source .now) _ _ (c .loop-i .i) 0 _ (c .pre) (c .loop-i-test .taken) (c .loop-i .inv) (c .of .ensures)
+loop-i-again g c = mapped-put (reduced (g .LAST)) (c .args .source .now) _ _ (c .loop-i .i) 0 _ (c .loop-i-test .taken) (c .loop-i .inv) (c .of .ensures)
 
 pub returns : need.returns
 returns g c =

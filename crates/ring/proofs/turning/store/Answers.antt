@@ -9,7 +9,7 @@ pub loop-i-holds : need.loop-i-holds
 loop-i-holds g c = mixed-none _ _
 
 pub loop-i-again : need.loop-i-again
-loop-i-again g c = mapped-put (λ x. x .value) (c .args .source .now) _ _ (c .loop-i .i) (c .index-source-i .result) _ (c .pre) (c .loop-i-test .taken) (c .loop-i .inv) refl
+loop-i-again g c = mapped-put (λ x. x .value) (c .args .source .now) _ _ (c .loop-i .i) (c .index-source-i .result) _ (c .loop-i-test .taken) (c .loop-i .inv) refl
 
 pub returns : need.returns
 returns g c =

@@ -5,7 +5,7 @@ use lib.ListN.{length, set, replicate, getD-replicate, length-replicate}
 use mir.Syntax.{w32}
 use mir.Val.{toZ, ofZ}
 use Rattle.std.proofs.shelf.Signed.{toZ-ofZ}
-use Rattle.ring.proofs.Mixed.{mixed-none, mixed-put, mixed-all}
+use Rattle.ring.proofs.Mixed.{mixed-none, mixed-set, mixed-all}
 use Rattle.script.proofs.row.fill.Needs as need
 
 pub loop-place-holds : need.loop-place-holds
@@ -18,7 +18,7 @@ loop-place-again c =
     let n = length (c .args .row .now) in
     let i = c .loop-place .place-index in
     ap (λ w. set w i v) (c .loop-place .inv)
-    ∙ mixed-put i (replicate n v) old v (length-replicate n v) (sym (getD-replicate n i v v (c .loop-place-test .taken)))
+    ∙ mixed-set i (replicate n v) old v (omega (arith, length-replicate n v)) (sym (getD-replicate n i v v (c .loop-place-test .taken)))
 
 pub returns : need.returns
 returns c =
