@@ -58,9 +58,9 @@ fold-folded r z h =
     (λ e. record { low = omega (arith, ints); high = omega (arith, ints, ltb-true (rest r z) r e) })
     (λ e. record { low = omega (arith, ints, ltb-false (rest r z) r e); high = omega (arith, ints, rest-below r z h) })
 
-pub fold-same : (r : ℕ) (z : ℤ) → 0 < r → Same (r + r) z (fold r z)
+pub fold-differs : (r : ℕ) (z : ℤ) → 0 < r → Same (r + r) z (fold r z)
 unfolding fold
-fold-same r z h =
+fold-differs r z h =
     cond-both (ltb (rest r z) r) (pos (rest r z)) (pos (rest r z) -ℤ pos (r + r)) (λ f. Same (r + r) z f)
     (λ e. rest-same r z h)
     (λ e. same-trans (r + r) z (pos (rest r z)) (pos (rest r z) -ℤ pos (r + r)) (rest-same r z h) (same-less (r + r) (pos (rest r z))))
@@ -90,11 +90,11 @@ folded-unique r f g hf hg s =
 pub fold-is : (r : ℕ) (z f : ℤ) → 0 < r → Folded r f → Same (r + r) z f → fold r z ≡ f
 fold-is r z f h hf s =
     folded-unique r (fold r z) f (fold-folded r z h) hf
-    (same-trans (r + r) (fold r z) z f (same-sym (r + r) z (fold r z) (fold-same r z h)) s)
+    (same-trans (r + r) (fold r z) z f (same-sym (r + r) z (fold r z) (fold-differs r z h)) s)
 
 pub fold-cong : (r : ℕ) (y z : ℤ) → 0 < r → Same (r + r) y z → fold r y ≡ fold r z
 fold-cong r y z h s =
-    fold-is r y (fold r z) h (fold-folded r z h) (same-trans (r + r) y z (fold r z) s (fold-same r z h))
+    fold-is r y (fold r z) h (fold-folded r z h) (same-trans (r + r) y z (fold r z) s (fold-differs r z h))
 
 -- ---- the folds of x and of x - r are r apart
 pub fold-halves : (r : ℕ) (x : ℤ) → 0 < r → natAbs (fold r x) + natAbs (fold r (x -ℤ pos r)) ≡ r
@@ -107,7 +107,7 @@ fold-halves r x h =
     fr = fold-folded r x h
 
     fs : Same (r + r) x (fold r x)
-    fs = fold-same r x h
+    fs = fold-differs r x h
 
     low : fold r x <ℤ pos 0 → fold r (x -ℤ pos r) ≡ fold r x +ℤ pos r
     low l =
@@ -136,7 +136,7 @@ fold-least r z y h s =
 pub fold-sum : (r : ℕ) (x y : ℤ) → 0 < r → natAbs (fold r (x +ℤ y)) ≤ natAbs (fold r x +ℤ fold r y)
 fold-sum r x y h =
     fold-least r (x +ℤ y) (fold r x +ℤ fold r y) h
-    (same-add (r + r) x (fold r x) y (fold r y) (fold-same r x h) (fold-same r y h))
+    (same-add (r + r) x (fold r x) y (fold r y) (fold-differs r x h) (fold-differs r y h))
 
 -- |fold x| ≤ |x|
 pub fold-small : (r : ℕ) (z : ℤ) → 0 < r → natAbs (fold r z) ≤ natAbs z
@@ -153,11 +153,11 @@ fold-double r z h =
     fr = fold-folded r z h
 
     fs : Same (r + r) z (fold r z)
-    fs = fold-same r z h
+    fs = fold-differs r z h
 
 -- the fold at a width, of numbers that differ by a multiple of 2 ^ w
-pub fold-width : (w : ℕ) (y z : ℤ) → 0 < w → Same (2 ^ w) y z → fold (radius w) y ≡ fold (radius w) z
-fold-width w y z h s = fold-cong (radius w) y z (radius-pos w) (subst (λ (n : ℕ). Same n y z) (sym (radius-twice w h)) s)
+pub fold-same : (w : ℕ) (y z : ℤ) → 0 < w → Same (2 ^ w) y z → fold (radius w) y ≡ fold (radius w) z
+fold-same w y z h s = fold-cong (radius w) y z (radius-pos w) (subst (λ (n : ℕ). Same n y z) (sym (radius-twice w h)) s)
 
 pub natAbs-sum : (x y : ℤ) → natAbs (x +ℤ y) ≤ natAbs x + natAbs y
 natAbs-sum x y = omega (arith, ints)

@@ -6,7 +6,7 @@ use mathlib.Core.Logic.{_⊎_, inl, inr}
 use native.Mathlib.Omega.{arith}
 use lib.IntN.{ℤ}
 use lib.ListN.{length}
-use Rattle.std.proofs.shelf.Tests.{cases-eq}
+use Rattle.std.proofs.shelf.Tests.{cases-eq, cases-lt}
 use Rattle.code.specs.Distances.{distance}
 use Rattle.code.specs.Messages.{number}
 use Rattle.code.specs.Rows.{octet, greatest, farthest}
@@ -42,3 +42,23 @@ farthest-above w v message i h = greatest-above (λ i. distance w (octet v i) (n
 pub farthest-below : (w : ℕ) (v : List ℤ) (message : List ℕ) (b : ℕ) → ((i : ℕ) → i < length v / 8 → distance w (octet v i) (number message i) ≤ b) → farthest w v message ≤ b
 unfolding farthest
 farthest-below w v message b h = greatest-below (λ i. distance w (octet v i) (number message i)) (length v / 8) b h
+
+-- what holds of 0 and of each holds of the greatest
+greatest-holds : (P : ℕ → Type 0) (f : ℕ → ℕ) (n : ℕ) → P 0 → ((i : ℕ) → i < n → P (f i)) → P (greatest f n)
+unfolding greatest
+greatest-holds P f zero z h = z
+greatest-holds P f (suc n) z h =
+    elim (cases-lt (greatest f n) (f n)) [
+      | inl l ↦ subst P (right (greatest f n) (f n) l) (h n (omega arith))
+      | inr l ↦ subst P (left (greatest f n) (f n) l) (greatest-holds P f n z (λ i m. h i (omega arith)))
+    ]
+  where
+    right : (x y : ℕ) → x < y → y ≡ max x y
+    right x y l = omega arith
+
+    left : (x y : ℕ) → y ≤ x → x ≡ max x y
+    left x y l = omega arith
+
+pub farthest-holds : (P : ℕ → Type 0) (w : ℕ) (v : List ℤ) (message : List ℕ) → P 0 → ((i : ℕ) → i < length v / 8 → P (distance w (octet v i) (number message i))) → P (farthest w v message)
+unfolding farthest
+farthest-holds P w v message z h = greatest-holds P (λ i. distance w (octet v i) (number message i)) (length v / 8) z h

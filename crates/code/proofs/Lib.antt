@@ -13,3 +13,5 @@ pub mod RowLaws
 pub mod Greatest
 pub mod Agreement
 pub mod Decoding
+pub mod Positions
+pub mod Noise

@@ -18,7 +18,7 @@ use Rattle.code.specs.Words.{word}
 use Rattle.code.specs.Distances.{distance, cost}
 use Rattle.code.specs.Tries.{at-odd, raised, lowered}
 use Rattle.code.proofs.Multiples.{same-refl, same-sym, same-trans, same-add, same-sub, same-rest, same-power, same-less}
-use Rattle.code.proofs.FoldLaws.{fold-width, radius-twice, rest-same, rest-below}
+use Rattle.code.proofs.FoldLaws.{fold-same, radius-twice, rest-same, rest-below}
 use Rattle.code.proofs.WordLaws.{binary, turned, word-turned, word-binary}
 use Rattle.code.proofs.DistanceLaws.{gap, distance-gap, cost-zero, cost-one}
 use Rattle.code.proofs.Searches.{eight}
@@ -76,13 +76,13 @@ raised-same w z h = same-sym (2 ^ w) (z +ℤ pos (radius w)) (wrapped w32 (z +�
 raised-cost : (w : ℕ) (z : ℤ) (b : ℕ) → 0 < w → w ≤ 32 → b < 2 → cost (radius w) (wrapped w32 (z +ℤ pos (radius w))) b ≡ cost (radius w) z (1 - b)
 raised-cost w z zero p h hb =
     cost-zero (radius w) (wrapped w32 (z +ℤ pos (radius w)))
-    ∙ ap (λ (f : ℤ). natAbs f * natAbs f) (fold-width w (wrapped w32 (z +ℤ pos (radius w))) (z -ℤ pos (radius w)) p
+    ∙ ap (λ (f : ℤ). natAbs f * natAbs f) (fold-same w (wrapped w32 (z +ℤ pos (radius w))) (z -ℤ pos (radius w)) p
     (same-trans (2 ^ w) (wrapped w32 (z +ℤ pos (radius w))) (z +ℤ pos (radius w)) (z -ℤ pos (radius w)) (raised-same w z h)
     (record { here = 0; there = 1; tie = omega (arith, ints, radius-twice w p) })))
     ∙ sym (cost-one (radius w) z)
 raised-cost w z (suc zero) p h hb =
     cost-one (radius w) (wrapped w32 (z +ℤ pos (radius w)))
-    ∙ ap (λ (f : ℤ). natAbs f * natAbs f) (fold-width w (wrapped w32 (z +ℤ pos (radius w)) -ℤ pos (radius w)) z p
+    ∙ ap (λ (f : ℤ). natAbs f * natAbs f) (fold-same w (wrapped w32 (z +ℤ pos (radius w)) -ℤ pos (radius w)) z p
     (record { here = s .here; there = s .there; tie = omega (arith, ints, s .tie) }))
     ∙ sym (cost-zero (radius w) z)
   where

@@ -1,0 +1,13 @@
+pub mod Alikes
+pub mod Coefficients
+pub mod Embeddings
+pub mod ExactErrors
+pub mod Filling
+pub mod JoinLaws
+pub mod Offsets
+pub mod Openings
+pub mod Reductions
+pub mod SecretLaws
+pub mod Spreads
+pub mod TrimLaws
+pub mod WrapLaws

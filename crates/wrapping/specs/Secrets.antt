@@ -2,7 +2,7 @@
 use mathlib.Core.Path.{_≡_}
 use mathlib.Core.Bool.{Bool, true, _&&_}
 use mathlib.Core.List.{List, [], _∷_, map}
-use Prim.Native.Nat.{ℕ, _<_, _%_}
+use Prim.Native.Nat.{ℕ, zero, suc, _<_, _%_}
 use lib.Dec.{leb}
 use lib.IntN.{ℤ, pos, _+ℤ_, natAbs}
 use lib.ListN.{length}
@@ -18,6 +18,11 @@ all-small (z ∷ zs) = leb (natAbs z) 6 && all-small zs
 unfoldable pub secret : List ℤ → List ℤ
 secret [] = []
 secret (z ∷ zs) = (z +ℤ z +ℤ pos 1) ∷ map (λ y. y +ℤ y) zs
+
+-- coefficient i of f, from coefficient i of f'
+abbrev pub secret-at : ℕ → ℤ → ℤ
+secret-at zero z = z +ℤ z +ℤ pos 1
+secret-at (suc i) z = z +ℤ z
 
 -- a row of whole numbers as residues modulo m
 abbrev pub reduced-row : ℕ → List ℤ → List ℕ

@@ -1,20 +1,28 @@
 // Small polynomials with signs, and their residues as the engines take them.
 ghost use mathlib.Core.Path.{_≡_};
 ghost use Prim.Native.Nat.{_+_};
-ghost use lib.IntN.{pos, natAbs};
+ghost use lib.Dec.{leb};
+ghost use lib.IntN.{natAbs};
 ghost use Rattle.ring.specs.Wholes.{residue as residueOf};
-ghost use Rattle.wrapping.specs.Secrets.{all-small, reduced-row, secret as secretOf};
+ghost use Rattle.wrapping.specs.Secrets.{all-small, reduced-row, secret as secretOf, secret-at};
 ghost use Rattle.wrapping.specs.Buffers.{over};
 
 // The largest size of a coefficient of f', g or r.
 const LIMIT: u16 = 6;
+
+// Whether a coefficient is from -6 to 6.
+fn small(x: i16) -> bool
+    ensures { λ r. ⌜ r ≡ leb (natAbs x) 6 ⌝ }
+{
+    x.unsigned_abs() <= LIMIT
+}
 
 // Whether each coefficient is from -6 to 6.
 pub fn is_small(row: &[i16]) -> bool
     ensures { λ r. ⌜ r ≡ all-small (now (row .entry)) ⌝ }
 {
     for x in row {
-        if x.unsigned_abs() > LIMIT {
+        if !small(*x) {
             return false;
         }
     }
@@ -39,7 +47,9 @@ pub fn reduce<const LAST: u16>(row: &[i16], out: &mut [u16])
 }
 
 // Coefficient i of f = 2 f' + 1.
-fn coefficient(i: usize, x: i16) -> i32 {
+fn coefficient(i: usize, x: i16) -> i32
+    ensures { λ r. ⌜ r ≡ secret-at i x ⌝ }
+{
     let doubled = 2 * x as i32;
     if i == 0 { doubled + 1 } else { doubled }
 }

@@ -1,4 +1,4 @@
-use Rattle.code.proofs.FoldLaws.{fold-folded, fold-same as fold-differs, fold-is, fold-halves, fold-sum, fold-small, fold-width, fold-double}
+use Rattle.code.proofs.FoldLaws.{fold-folded, fold-differs, fold-is, fold-halves, fold-sum, fold-small, fold-same, fold-double}
 use Rattle.code.proofs.Squares.{triangle}
 use Rattle.code.proofs.WordLaws.{word-xor}
 use Rattle.code.proofs.DistanceLaws.{nearest-best, sure, sure-best, robust}
@@ -15,7 +15,7 @@ returns c = record {
   halves = fold-halves;
   fold-sum = fold-sum;
   fold-small = fold-small;
-  fold-same = fold-width;
+  fold-same = fold-same;
   fold-double = fold-double;
   triangle = triangle;
   word-xor = word-xor;

@@ -1,0 +1,11 @@
+// Key custody: drafts are keyed, commissioned into stations, and stations keep wrapped messages.
+pub mod call;
+pub mod draft;
+pub mod filled;
+pub mod holding;
+pub mod key;
+mod lines;
+mod places;
+mod products;
+pub mod register;
+pub mod station;

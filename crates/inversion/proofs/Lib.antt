@@ -1,0 +1,9 @@
+pub mod Highest
+pub mod Zeros
+pub mod Divisions
+pub mod Units
+pub mod Chains
+pub mod Fillings
+pub mod Remainders
+pub mod Runs
+pub mod Inverting

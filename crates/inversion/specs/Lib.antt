@@ -1,0 +1,5 @@
+pub mod Places
+pub mod Leading
+pub mod Division
+pub mod Euclid
+pub mod Inverse

@@ -1,0 +1,4 @@
+pub mod Digits
+pub mod Answers
+pub mod Reading
+pub mod Laws
