@@ -65,11 +65,15 @@ deposited key w r message =
 abbrev pub deposit-width : ℕ → Reply ℕ
 deposit-width w = cond (leb 9 w && leb w 11) (Ok w) (Err Width)
 
+-- what a deposit looks at besides its place: 11, 2, 3
+abbrev pub depositable : ℕ → ℕ → List ℤ → List ℕ → Reply ℕ
+depositable n w r message =
+    then (deposit-width w) (λ _.
+    cond (eqb (length r) n && eqb (length message) (n / 16)) (cond (all-small r) (Ok w) (Err Noise)) (Err Length))
+
 -- what a deposit looks at before it wraps: 6, 7, 11, 2, 3
 abbrev pub vacant : ℕ → Book → ℕ → ℕ → List ℤ → List ℕ → Reply ℕ
-vacant n book place w r message =
-    placed place (free (at book place) (then (deposit-width w) (λ _.
-    cond (eqb (length r) n && eqb (length message) (n / 16)) (cond (all-small r) (Ok w) (Err Noise)) (Err Length))))
+vacant n book place w r message = placed place (free (at book place) (depositable n w r message))
 
 -- deposit: 5, 6, 7, 11, 2, 3, 12
 abbrev pub deposit : Key → Told → Book → ℕ → ℕ → List ℤ → List ℕ → Reply Line

@@ -29,6 +29,11 @@ abbrev pub lined : ℕ → Result Filled Refusal → Result Line Refusal
 lined n (Ok a) = Ok (line-of n a)
 lined n (Err e) = Err e
 
+-- a reply with an optional record as a reply with its line
+abbrev pub optional : ℕ → Result (Option Filled) Refusal → Result (Option Line) Refusal
+optional n (Ok a) = Ok (mapped (line-of n) a)
+optional n (Err e) = Err e
+
 -- a reply with a width as a reply with its bits
 abbrev pub bits-of : Result Width Refusal → Result ℕ Refusal
 bits-of (Ok w) = Ok (w .bits)

@@ -7,5 +7,7 @@ pub mod key;
 mod lines;
 mod places;
 mod products;
+pub mod readings;
 pub mod register;
 pub mod station;
+pub mod writings;

@@ -21,11 +21,11 @@ use wrapping::trim;
 use wrapping::wrap;
 
 // The record, if its allowance is below the radius.
-fn quiet(width: Width, coefficients: [u16; 1024], allowance: u32) -> Result<Filled, Refusal>
+fn quiet(width: Width, coefficients: [u16; 1024], allowance: u64) -> Result<Filled, Refusal>
     requires { ⌜ all-below (2 ^ width .bits) coefficients ≡ true ⌝ }
     ensures { λ r. ⌜ ((n : ℕ) → lined n r ≡ quietOf (candidate (width .bits) (take n coefficients) allowance)) ⌝ }
 {
-    if allowance >= width.radius() {
+    if allowance >= width.radius() as u64 {
         return Err(Refusal::TooNoisy);
     }
     Ok(Filled {
@@ -54,7 +54,7 @@ pub(crate) fn deposited<P: RingEngine, Q: RingEngine>(
     let mut coefficients = [0u16; 1024];
     wrap::embed(&sigma, message, width, &mut coefficients);
     let distance = products::distance(binary, n, &coefficients, &key.f, message, width)?;
-    quiet(width, coefficients, root_up(distance))
+    quiet(width, coefficients, root_up(distance) as u64)
 }
 
 // The record that a second one added into a first makes; both have one width.
@@ -64,7 +64,7 @@ pub(crate) fn together(first: Filled, second: Filled) -> Result<Filled, Refusal>
 {
     let mut coefficients = first.coefficients;
     join::add(&mut coefficients, &second.coefficients, first.width);
-    let allowance = first.allowance as u32 + second.allowance as u32;
+    let allowance = first.allowance as u64 + second.allowance as u64;
     quiet(first.width, coefficients, allowance)
 }
 
@@ -88,9 +88,6 @@ pub(crate) fn shortened<Q: RingEngine>(
     let loss = root_up(distance);
     let mut coefficients = filled.coefficients;
     trim::halve(&mut coefficients, filled.width);
-    quiet(
-        width,
-        coefficients,
-        (filled.allowance as u32 + loss + 1) / 2,
-    )
+    let allowance = (filled.allowance as u64 + loss as u64 + 1) / 2;
+    quiet(width, coefficients, allowance)
 }

@@ -4,8 +4,10 @@ ghost use Prim.Native.Nat.{_<_};
 ghost use lib.ListN.{length, set};
 ghost use Rattle.std.specs.declared.option.Option.the-variants.{Some, None};
 ghost use Rattle.custody.specs.Calls.{emptied, put};
-ghost use Rattle.custody.specs.Checks.{deposit-width, join-places, found, plain, vacant as vacantOf};
-ghost use Rattle.custody.specs.Views.{book, bits-of, line-of, lined};
+ghost use Rattle.std.specs.declared.result.Result.the-variants.{Ok};
+ghost use Rattle.custody.specs.Books.{at};
+ghost use Rattle.custody.specs.Checks.{deposit-width, depositable as depositableOf, join-places, found, placed, plain, vacant as vacantOf};
+ghost use Rattle.custody.specs.Views.{book, bits-of, line-of, lined, optional};
 use crate::filled::Filled;
 use crate::lines;
 use crate::register::Register;
@@ -14,15 +16,21 @@ use ring::refusal::Refusal;
 use wrapping::secret::is_small;
 
 impl Register {
-    // The record of a filled place: 6, 8.
-    pub(crate) fn filled(&self, place: usize) -> Result<Filled, Refusal>
-        ensures { λ r. ⌜ lined (now (self .entry) .key .degree) r ≡ found (book (now (self .entry))) place ⌝ }
+    // What a place holds, if anything: 6.
+    fn held(&self, place: usize) -> Result<Option<Filled>, Refusal>
+        ensures { λ r. ⌜ optional (now (self .entry) .key .degree) r ≡ placed place (Ok (at (book (now (self .entry))) place)) ⌝ }
     {
         if place > 7 {
             return Err(Refusal::Place);
         }
-        let held = self.places[place];
-        match held {
+        Ok(self.places[place])
+    }
+
+    // The record of a filled place: 6, 8.
+    pub(crate) fn filled(&self, place: usize) -> Result<Filled, Refusal>
+        ensures { λ r. ⌜ lined (now (self .entry) .key .degree) r ≡ found (book (now (self .entry))) place ⌝ }
+    {
+        match self.held(place)? {
             Some(filled) => Ok(filled),
             None => Err(Refusal::Empty),
         }
@@ -38,22 +46,10 @@ impl Register {
     ) -> Result<Width, Refusal>
         ensures { λ r. ⌜ bits-of r ≡ vacantOf (now (self .entry) .key .degree) (book (now (self .entry))) place width (now (noise .entry)) (now (message .entry)) ⌝ }
     {
-        if place > 7 {
-            return Err(Refusal::Place);
+        match self.held(place)? {
+            Some(_) => Err(Refusal::Taken),
+            None => depositable(self.key.degree, width, noise, message),
         }
-        let held = self.places[place];
-        if let Some(_) = held {
-            return Err(Refusal::Taken);
-        }
-        let n = self.key.degree;
-        let width = deposit_width(width)?;
-        if noise.len() != n || message.len() != n / 16 {
-            return Err(Refusal::Length);
-        }
-        if !is_small(noise) {
-            return Err(Refusal::Noise);
-        }
-        Ok(width)
     }
 
     // Fills a place.
@@ -103,6 +99,20 @@ impl Register {
         }
         lines::together(a, b)
     }
+}
+
+// What a deposit looks at besides its place: 11, 2, 3.
+fn depositable(n: usize, width: u32, noise: &[i16], message: &[u8]) -> Result<Width, Refusal>
+    ensures { λ r. ⌜ bits-of r ≡ depositableOf n width (now (noise .entry)) (now (message .entry)) ⌝ }
+{
+    let width = deposit_width(width)?;
+    if noise.len() != n || message.len() != n / 16 {
+        return Err(Refusal::Length);
+    }
+    if !is_small(noise) {
+        return Err(Refusal::Noise);
+    }
+    Ok(width)
 }
 
 // The width of a deposit, 9 to 11.

@@ -1,5 +1,5 @@
 -- Euclid's algorithm from its start through each division to its end.
-use mathlib.Core.Path.{_≡_, refl, sym, ap, ap₂, subst, _∙_}
+use mathlib.Core.Path.{_≡_, refl, sym, ap, subst, _∙_}
 use mathlib.Core.List.{List, [], _∷_, _++_}
 use Prim.Native.Nat.{ℕ, zero, suc, _+_, _-_, _/_, _<_, _≤_}
 use native.Mathlib.Omega.{arith}
@@ -7,9 +7,9 @@ use lib.ListN.{length, length-append, length-replicate, length-set}
 use lib.Seq.{getD-at}
 use Rattle.std.proofs.shelf.Lists.{getD-past, getD-append-right}
 use Rattle.std.proofs.shelf.Tests.{cases-lt}
-use mathlib.Core.Logic.{_⊎_, inl, inr}
+use mathlib.Core.Logic.{inl, inr}
 use Rattle.ring.specs.Ring.{CommRing}
-use Rattle.ring.specs.Rows.{plus, times, add-into, zeros, bump, turn, product, unit, modulus-row}
+use Rattle.ring.specs.Rows.{times, zeros, bump, product, unit, modulus-row}
 use Rattle.ring.proofs.Scalars as scalar
 use Rattle.ring.proofs.RowLaws as r
 use Rattle.ring.proofs.Products as p

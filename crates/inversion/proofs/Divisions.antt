@@ -1,14 +1,14 @@
 -- One division clears the upper row down to the lower's degree, and raises the degree of the upper cofactor by as much.
-use mathlib.Core.Path.{_≡_, refl, sym, ap, ap₂, subst, _∙_}
-use mathlib.Core.Logic.{_⊎_, inl, inr}
-use mathlib.Core.List.{List, [], _∷_, _++_}
+use mathlib.Core.Path.{_≡_, refl, sym, ap, ap₂, _∙_}
+use mathlib.Core.Logic.{inl, inr}
+use mathlib.Core.List.{List, _++_}
 use Prim.Native.Nat.{ℕ, zero, suc, _+_, _-_, _<_, _≤_}
 use native.Mathlib.Omega.{arith}
 use lib.ListN.{length, getD}
 use Rattle.std.proofs.shelf.Lists.{getD-default}
 use Rattle.std.proofs.shelf.Tests.{cases-eq}
 use Rattle.ring.specs.Ring.{CommRing}
-use Rattle.ring.specs.Rows.{plus, times, add-into, zeros, product}
+use Rattle.ring.specs.Rows.{plus, times, zeros, product}
 use Rattle.ring.proofs.Scalars as scalar
 use Rattle.ring.proofs.Steps.{length-add-into}
 use Rattle.inversion.specs.Places.{at, Below, Leads}

@@ -1,7 +1,6 @@
 -- What the end of Euclid's algorithm says of the inverse of f.
 use mathlib.Core.Path.{_≡_, refl, sym, ap, subst, _∙_}
 use mathlib.Core.List.{List}
-use mathlib.Core.Logic.{_⊎_, inl, inr}
 use Prim.Native.Nat.{ℕ, _<_, _≤_}
 use native.Mathlib.Omega.{arith}
 use mathlib.Core.Bool.{_||_}
@@ -16,8 +15,8 @@ use Rattle.std.specs.declared.result.Result.the-variants.{Ok, Err}
 use Rattle.std.proofs.shelf.Results.{cases-weaker}
 use Rattle.std.proofs.shelf.Tests.{cond-true, cond-false, or-from, ne-eqb, le-ltb, eq-eqb}
 use Rattle.ring.specs.declared.refusal.Refusal.{Refusal}
-use Rattle.ring.specs.declared.refusal.Refusal.the-variants.{Mismatch, Length, NoInverse}
-use Rattle.ring.specs.Rows.{add-into, zeros, product, unit}
+use Rattle.ring.specs.declared.refusal.Refusal.the-variants.{NoInverse}
+use Rattle.ring.specs.Rows.{add-into, zeros, product}
 use Rattle.inversion.specs.Places.{at}
 use Rattle.inversion.specs.Leading.{F, field, leading}
 use Rattle.inversion.specs.Euclid.{reciprocal}

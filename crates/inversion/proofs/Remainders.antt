@@ -1,24 +1,20 @@
 -- The residues modulo 3457 are a field, and the remainder sequence over them.
-use mathlib.Core.Path.{_≡_, refl, sym, ap, ap₂, subst, _∙_}
-use mathlib.Core.Bool.{cond, true, false}
-use mathlib.Core.List.{List, [], _∷_, _++_}
-use Prim.Native.Nat.{ℕ, zero, suc, _+_, _-_, _*_, _%_, _<_, _≤_}
+use mathlib.Core.Path.{_≡_, sym, ap, ap₂, _∙_}
+use mathlib.Core.List.{List}
+use Prim.Native.Nat.{ℕ, zero, suc, _-_}
 use native.Mathlib.Omega.{arith}
-use lib.ListN.{length}
-use Rattle.std.specs.Options.{isSome}
-use Rattle.std.specs.declared.option.Option.{Option}
-use Rattle.std.specs.declared.option.Option.the-variants.{Some, None}
+use Rattle.std.specs.declared.option.Option.the-variants.{Some}
 use Rattle.ring.specs.Ring.{CommRing}
 use Rattle.ring.specs.Modular.{mul-mod-mod}
-use Rattle.ring.specs.Residues.{residue-eq, reduced}
+use Rattle.ring.specs.Residues.{residue-eq}
 use Rattle.ring.specs.Powers.{climb, exponent}
 use Rattle.ring.proofs.Scalars as scalar
 use Rattle.ring.proofs.Inverses.{power-inverts}
-use Rattle.inversion.specs.Places.{at, Below, Leads}
+use Rattle.inversion.specs.Places.{at, Leads}
 use Rattle.inversion.specs.Leading.{F, field, leading}
 use Rattle.inversion.specs.Division.{divided, along}
 use Rattle.inversion.specs.Euclid.{reciprocal, remainder, remainder-at, cofactor, cofactor-at}
-use Rattle.inversion.proofs.Highest.{zero-of, value-of}
+use Rattle.inversion.proofs.Highest.{zero-of}
 
 module _ {C : Type 0} (R : CommRing C) where
   -- two inverses of one coefficient are equal

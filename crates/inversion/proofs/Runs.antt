@@ -1,8 +1,8 @@
 -- The loop of Euclid's algorithm over the residues modulo 3457.
-use mathlib.Core.Path.{_≡_, refl, sym, ap, ap₂, subst, _∙_}
+use mathlib.Core.Path.{_≡_, refl, sym, ap, subst, _∙_}
 use mathlib.Core.Bool.{cond, true, false}
 use mathlib.Core.List.{List, [], _∷_, _++_}
-use mathlib.Core.Logic.{_⊎_, inl, inr}
+use mathlib.Core.Logic.{inl, inr}
 use Prim.Native.Nat.{ℕ, zero, suc, _+_, _-_, _<_, _≤_}
 use native.Mathlib.Omega.{arith}
 use lib.ListN.{length}
@@ -14,10 +14,9 @@ use Rattle.ring.specs.Rows.{zeros, unit, modulus-row}
 use Rattle.inversion.specs.Places.{at, Below, Leads}
 use Rattle.inversion.specs.Leading.{F, field, leading}
 use Rattle.inversion.specs.Division.{divided}
-use Rattle.inversion.specs.Euclid.{reciprocal, remainder, remainder-at, cofactor, sequence, remainders, last-of}
+use Rattle.inversion.specs.Euclid.{reciprocal, remainder, cofactor, sequence, remainders, last-of}
 use Rattle.inversion.proofs.Chains.{Chain}
-use Rattle.inversion.proofs.Highest.{leads-leading, leading-some, leading-none}
-use Rattle.inversion.proofs.Divisions as d
+use Rattle.inversion.proofs.Highest.{leads-leading, leading-some}
 use Rattle.inversion.proofs.Chains as c
 use Rattle.inversion.proofs.Remainders.{reciprocal-inverts, domain, one-some, remainder-is, cofactor-is}
 
@@ -57,9 +56,6 @@ height-low row q (Some p) e h =
 module _ (f a v b w : List F) (some : 0 < length f) (h : Running f a v b w) (q : ℕ) (qb : leading b ≡ Some q) where
   leads : Leads field q b
   leads = leading-some b q qb .1
-
-  scale : F
-  scale = reciprocal (at field b q)
 
   next-chain : Chain field (length f) f q b w (remainder a b) (cofactor a v b w)
   next-chain =

@@ -1,7 +1,7 @@
 -- Rows times 1, and why an inverse is the only one.
-use mathlib.Core.Path.{_≡_, refl, sym, ap, ap₂, _∙_}
-use mathlib.Core.List.{List, [], _∷_, _++_}
-use Prim.Native.Nat.{ℕ, zero, suc, _+_, _<_, _≤_}
+use mathlib.Core.Path.{_≡_, sym, ap, ap₂, _∙_}
+use mathlib.Core.List.{List, [], _∷_}
+use Prim.Native.Nat.{ℕ, zero, suc, _<_}
 use native.Mathlib.Omega.{arith}
 use lib.ListN.{length, length-replicate}
 use Rattle.ring.specs.Ring.{CommRing}
@@ -52,6 +52,10 @@ module _ {C : Type 0} (R : CommRing C) (n : ℕ) (some : 0 < n) where
       → product R n u f ≡ unit R n → product R n v f ≡ unit R n → u ≡ v
   inverse-unique f u v lf lu lv hu hv =
       sym (p.product-unit R n some u lu) ∙ ap (product R n u) (sym hv) ∙ p.product-swap R n some u v f lf ∙ ap (product R n v) hu ∙ p.product-unit R n some v lv
+
+  -- u·f = 1 makes (g·u)·f = g
+  pub quotient-times : (f u g : List C) → length f ≡ n → length u ≡ n → length g ≡ n → product R n u f ≡ unit R n → product R n (product R n g u) f ≡ g
+  quotient-times f u g lf lu lg h = p.product-assoc R n some g u f lg lu lf ∙ ap (product R n g) h ∙ p.product-unit R n some g lg
 
   -- w·f = 1 lets no row that is zero from n on, and not zero, have the product zero with f
   pub no-divisor : (f v w : List C) (i : ℕ) → length f ≡ n → Below R n v → (at R v i ≡ R .zero → ⊥)

@@ -1,11 +1,9 @@
 -- Rows that are zero from some place on: their sums, their shifts and what they do as factors.
 use mathlib.Core.Path.{_≡_, refl, sym, ap, ap₂, _∙_}
-use mathlib.Core.Logic.{_⊎_, inl, inr}
 use mathlib.Core.List.{List, [], _∷_, _++_}
 use Prim.Native.Nat.{ℕ, zero, suc, _+_, _-_, _<_, _≤_}
 use native.Mathlib.Omega.{arith}
-use lib.ListN.{length, getD, length-append, length-replicate}
-use Rattle.std.proofs.shelf.Tests.{cases-lt}
+use lib.ListN.{length}
 use Rattle.ring.specs.Ring.{CommRing}
 use Rattle.ring.specs.Rows.{plus, times, add-into, zeros, turn, product}
 use Rattle.ring.proofs.Scalars as s
@@ -13,7 +11,7 @@ use Rattle.ring.proofs.RowLaws as r
 use Rattle.ring.proofs.Turns as t
 use Rattle.ring.proofs.Products as p
 use Rattle.ring.proofs.Actions as a
-use Rattle.inversion.specs.Places.{at, Below, Leads}
+use Rattle.inversion.specs.Places.{at, Below}
 
 module _ {C : Type 0} (R : CommRing C) where
   -- a product of zero and a sum with it

@@ -17,14 +17,14 @@ pub record Inverse (f u : List F) : Type 0 where
   pub long : length u ≡ length f
   pub one : product field (length f) u f ≡ unit field (length f)
 
--- no other row is
+-- u is the only such row
 abbrev pub Only : List F → List F → Type 0
 Only f u = (v : List F) → Inverse f v → v ≡ u
 
--- no row is
+-- there is no such row
 abbrev pub NoInverseOf : List F → Type 0
 NoInverseOf f = (v : List F) → Inverse f v → ⊥
 
--- the refusal that comes before the search: of a row of n and a buffer of some places
+-- the refusal of a row of n and a buffer of some places, before any inverse is sought; or none
 abbrev pub refused : ℕ → ℕ → Option Refusal
 refused n places = cond (eqb n 0 || ltb 1024 n) (Some Mismatch) (cond (eqb places n) None (Some Length))

@@ -19,7 +19,7 @@ F = Residue 3456
 abbrev pub field : CommRing F
 field = residue-ring 3456
 
--- the leading place of x + X·row, from that of the row
+-- the leading place of a row that begins with x, from that of what follows x
 abbrev pub raised : F → Option ℕ → Option ℕ
 raised x None = cond (eqb (x .value) 0) None (Some 0)
 raised x (Some i) = Some (suc i)

@@ -1,12 +1,12 @@
 // One division of Euclid's algorithm, with the cofactors of the two rows.
 ghost use mathlib.Core.Path.{_≡_};
-ghost use Prim.Native.Nat.{suc, _-_, _<_, _≤_};
+ghost use Prim.Native.Nat.{suc, _-_, _<_};
 ghost use lib.ListN.{length};
 ghost use Rattle.inversion.specs.Division.{add-shifted, along, divided};
 ghost use Rattle.inversion.specs.Euclid.{cofactor, remainder};
 use crate::leading::leading;
+use crate::working;
 use ring::coefficient::Coefficient;
-use ring::inverse::inverse;
 use ring::modular::Mod3457;
 use ring::modular::ResidueRing;
 use ring::rows;
@@ -59,7 +59,7 @@ pub fn divide(
     let Some(place) = leading(lower) else {
         return;
     };
-    if let Some(scale) = inverse(lower[place]) {
+    if let Some(scale) = working::inverse_at(lower, place) {
         reduce(
             upper,
             upper_cofactor,

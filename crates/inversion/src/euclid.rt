@@ -1,6 +1,6 @@
 // The inverse of a polynomial modulo 3457, by Euclid's algorithm.
 ghost use mathlib.Core.Path.{_≡_};
-ghost use Prim.Native.Nat.{_+_, _<_, _≤_};
+ghost use Prim.Native.Nat.{_+_, _<_};
 ghost use lib.ListN.{length};
 ghost use Rattle.std.specs.Options.{Cases as BySome};
 ghost use Rattle.std.specs.Results.{Cases};
@@ -17,7 +17,6 @@ use crate::leading::leading;
 use crate::working;
 use ring::coefficient::Coefficient;
 use ring::engine::MAX_DEGREE;
-use ring::inverse::inverse;
 use ring::modular::Mod3457;
 use ring::modular::ResidueRing;
 use ring::refusal::Refusal;
@@ -37,7 +36,7 @@ fn finish(last: &[Mod3457], cofactor: &[Mod3457], u: &mut [Mod3457]) -> Result<(
     if place != 0 {
         return Err(Refusal::NoInverse);
     }
-    let Some(scale) = inverse(last[0]) else {
+    let Some(scale) = working::inverse_at(last, 0) else {
         return Err(Refusal::NoInverse);
     };
     working::clear(u);

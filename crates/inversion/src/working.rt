@@ -1,10 +1,15 @@
-// The rows that Euclid's algorithm works in: how they are filled and exchanged.
+// The rows that Euclid's algorithm works in: how they are filled, exchanged and read.
 ghost use mathlib.Core.Path.{_≡_};
 ghost use mathlib.Core.List.{_++_};
 ghost use Prim.Native.Nat.{_+_, _<_};
 ghost use lib.ListN.{length};
+ghost use Rattle.std.specs.Options.{Cases as BySome};
 ghost use Rattle.ring.specs.Rows.{modulus-row, unit, zeros};
+ghost use Rattle.inversion.specs.Places.{at};
+ghost use Rattle.inversion.specs.Leading.{field};
 use ring::coefficient::Coefficient;
+use ring::inverse::inverse;
+use ring::modular::Mod3457;
 use ring::rows;
 
 // Makes every place zero.
@@ -56,4 +61,12 @@ pub fn exchange<C: Coefficient>(a: &mut [C], b: &mut [C])
         a[i] = b[i];
         b[i] = x;
     }
+}
+
+// The inverse of the coefficient at a place, or none where that is zero.
+pub fn inverse_at(row: &[Mod3457], place: usize) -> Option<Mod3457>
+    requires { ⌜ place < length (now row) ⌝ }
+    ensures { λ r. ⌜ BySome r (at field (now (row .entry)) place ≡ field .zero) (λ y. field .mul (at field (now (row .entry)) place) y ≡ field .one) ⌝ }
+{
+    inverse(row[place])
 }

@@ -1,8 +1,6 @@
 use mathlib.Core.Path.{_≡_, sym, ap, ap₂, _∙_}
 use Rattle.std.specs.declared.option.Option.the-variants.{Some, None}
-use Rattle.std.proofs.shelf.Lists.{getD-default}
-use Rattle.inversion.specs.Places.{at}
-use Rattle.inversion.specs.Leading.{field, leading}
+use Rattle.inversion.specs.Leading.{leading}
 use Rattle.inversion.specs.Euclid.{remainder, remainder-at, cofactor, cofactor-at}
 use Rattle.inversion.proofs.Highest.{leading-some}
 use Rattle.inversion.proofs.Remainders.{remainder-is, cofactor-is}
@@ -31,8 +29,8 @@ returns-in-rest-leading c =
       beside = ap₂ (cofactor-at a (c .args .upper-cofactor .now) b (c .args .lower-cofactor .now)) p e;
     }
 
-pub returns-in-Some-inverse : need.returns-in-Some-inverse
-returns-in-Some-inverse c =
+pub returns-in-Some-inverse-at : need.returns-in-Some-inverse-at
+returns-in-Some-inverse-at c =
     let a = c .args .upper .now in
     let b = c .args .lower .now in
     let p = c .in-Some .top in
@@ -40,10 +38,9 @@ returns-in-Some-inverse c =
     let pa : leading a ≡ Some p = sym (c .leading .ensures .is) ∙ c .in-Some .is in
     let qb : leading b ≡ Some q = sym (c .leading-2 .ensures .is) ∙ c .in-Some-leading .is in
     let leads = leading-some b q qb in
-    let x-is : c .index-lower-place .result ≡ at field b q = c .index-lower-place .is ∙ getD-default b q (c .index-lower-place .result) (field .zero) (leads .0) in
-    let inverts : field .mul (at field b q) (c .in-Some-inverse .scale) ≡ field .one = ap (λ x. field .mul x (c .in-Some-inverse .scale)) (sym x-is) ∙ c .in-Some-inverse .ensures tt in
+    let inverts = c .in-Some-inverse-at .ensures tt in
     record {
-      row = c .reduce .ensures .row ∙ sym (remainder-is a b p q (c .in-Some-inverse .scale) pa qb (leads .1) inverts);
+      row = c .reduce .ensures .row ∙ sym (remainder-is a b p q (c .in-Some-inverse-at .scale) pa qb (leads .1) inverts);
       beside = c .reduce .ensures .beside
-          ∙ sym (cofactor-is a b p q (c .in-Some-inverse .scale) pa qb (leads .1) inverts (c .args .upper-cofactor .now) (c .args .lower-cofactor .now));
+          ∙ sym (cofactor-is a b p q (c .in-Some-inverse-at .scale) pa qb (leads .1) inverts (c .args .upper-cofactor .now) (c .args .lower-cofactor .now));
     }

@@ -1,5 +1,6 @@
 use native.Mathlib.Omega.{arith}
-use Prim.Native.Nat.{_<_}
+use mathlib.Core.Path.{_≡_}
+use Prim.Native.Nat.{_<_, _≤_}
 use lib.ListN.{length}
 use Rattle.std.proofs.shelf.Results.{cases-weaker}
 use Rattle.inversion.specs.Inverse.{refused}
@@ -14,7 +15,9 @@ returns c =
     let r = c .solve .result in
     let not-empty = c .if-n-eq0 .left in
     let some : 0 < n = omega (arith, not-empty) in
-    let which = searched n places r _ not-empty (c .if-n-gt-MAX-DEGREE .left) (c .if-u-n .left) (c .solve .ensures .refuses) in
+    let within : n ≤ 1024 = omega arith in
+    let same : places ≡ n = omega arith in
+    let which = searched n places r _ not-empty within same (c .solve .ensures .refuses) in
     record {
       refuses = which;
       found = cases-weaker r (c .solve .ensures .found) (λ _ g. (g, only-inverse f (c .solve .last .u) some g)) (λ _ _. tt);

@@ -1,5 +1,4 @@
 use mathlib.Core.Path.{_≡_, sym, ap, subst, _∙_}
-use mathlib.Core.Bool.{true, false}
 use mathlib.Core.List.{List}
 use Prim.Native.Nat.{_<_}
 use Rattle.std.specs.Options.{isSome}

@@ -1,6 +1,5 @@
-use mathlib.Core.Path.{_≡_, sym, ap, _∙_}
+use mathlib.Core.Path.{sym, _∙_}
 use native.Mathlib.Omega.{arith}
-use lib.ListN.{getD}
 use Rattle.std.proofs.shelf.Lists.{getD-default}
 use Rattle.inversion.specs.Places.{Below, Leads}
 use Rattle.inversion.specs.Leading.{field}
@@ -16,7 +15,7 @@ returns-then-row-i-ne0 c =
     let row = c .args .row .now in
     let i = c .loop-i .i in
     let e = getD-default row (i - 1) (c .index-row-i .result) (field .zero) (omega arith) in
-    let leads : Leads field (i - 1) row = leads-down row i (c .loop-i-test .taken) (c .loop-i .inv) (λ z. c .if-row-i-ne0 .taken (value-of _ (e ∙ z))) in
+    let leads : Leads field (i - 1) row = leads-down row i (omega arith) (c .loop-i .inv) (λ z. c .if-row-i-ne0 .taken (value-of _ (e ∙ z))) in
     record { is = sym (leads-leading row (i - 1) leads); means = (omega arith, leads) }
 
 pub loop-i-again : need.loop-i-again
@@ -24,7 +23,7 @@ loop-i-again c =
     let row = c .args .row .now in
     let i = c .loop-i .i in
     let e = getD-default row (i - 1) (c .index-row-i .result) (field .zero) (omega arith) in
-    below-down row i (c .loop-i-test .taken) (c .loop-i .inv) (sym e ∙ zero-of _ (c .if-row-i-ne0 .left))
+    below-down row i (omega arith) (c .loop-i .inv) (sym e ∙ zero-of _ (c .if-row-i-ne0 .left))
 
 pub returns : need.returns
 returns c =
