@@ -1,18 +1,19 @@
 -- Parts of rows: what their first n places are, and that their entries stay below a limit.
 use mathlib.Core.Path.{_≡_, refl, sym, ap, ap₂, subst, _∙_}
 use mathlib.Core.Bool.{Bool, true, false, _&&_}
-use mathlib.Core.List.{List, [], _∷_, map}
+use mathlib.Core.List.{List, [], _∷_, _++_, map}
 use Prim.Native.Nat.{ℕ, zero, suc, _+_, _-_, _*_, _%_, _^_, _<_, _≤_}
 use native.Mathlib.Nat.{mod-lt}
 use native.Mathlib.Omega.{arith}
 use lib.Dec.{ltb}
 use lib.ListN.{length, getD, take, replicate, length-take, length-replicate, length-map}
 use lib.Seq.{getD-take}
-use lib.Pow.{pow-pos}
+use lib.Pow.{pow-pos, pow-mono}
 use Rattle.std.proofs.shelf.Tests.{and-parts, lt-ltb, ltb-true}
 use Rattle.std.proofs.shelf.Lists.{ext-getD}
 use Rattle.std.specs.Iters.{counting}
 use Rattle.ring.specs.Engines.{all-below}
+use Rattle.custody.specs.declared.filled.Filled.{Filled}
 use Rattle.wrapping.specs.Buffers.{over}
 use Rattle.wrapping.proofs.Filling.{over-whole}
 use Rattle.wrapping.specs.Joins.{joined}
@@ -104,3 +105,15 @@ wrapped-front n w row message out l h e = ap (take n) (wrapped-is w row message 
 -- an array that the halvings of another were written into
 pub halvings-is : (row out : List ℕ) → length row ≡ 1024 → out ≡ over (map halving row) (replicate 1024 0) → out ≡ map halving row
 halvings-is row out l e = e ∙ over-whole _ _ (length-map row halving ∙ l ∙ sym (length-replicate {A = ℕ} 1024 0))
+
+-- the coefficients of a record are residues modulo 2048
+pub filled-below : (n : ℕ) (a : Filled) → all-below 2048 (take n (a .coefficients)) ≡ true
+filled-below n a =
+    let high : a .width .bits ≤ 11 = a .width .ok .1 in
+    below-take 2048 n (a .coefficients) (below-weaken (2 ^ a .width .bits) 2048 (a .coefficients) (pow-mono high) (a .small))
+
+pub take-exact : {X : Type 0} (a b : List X) (k : ℕ) → length a ≡ k → take k (a ++ b) ≡ a
+take-exact {X} [] b zero e = refl
+take-exact [] b (suc k) e = absurd (omega arith)
+take-exact (x ∷ a) b zero e = absurd (omega arith)
+take-exact {X} (x ∷ a) b (suc k) e = ap {B = List X} (λ w. x ∷ w) (take-exact a b k (omega arith))

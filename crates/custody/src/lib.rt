@@ -5,6 +5,7 @@ pub mod filled;
 pub mod holding;
 pub mod key;
 mod lines;
+mod outputs;
 mod places;
 mod products;
 pub mod readings;

@@ -1,7 +1,7 @@
 // The ring products of custody, every one of them asked of an engine.
 ghost use mathlib.Core.Path.{_≡_};
 ghost use mathlib.Core.Bool.{true};
-ghost use Prim.Native.Nat.{_<_, _≤_};
+ghost use Prim.Native.Nat.{_/_, _<_, _≤_};
 ghost use lib.ListN.{length, take};
 ghost use Rattle.std.specs.declared.result.Result.the-variants.{Ok};
 ghost use Rattle.std.specs.Vec.{made};
@@ -115,4 +115,24 @@ pub(crate) fn decode<Q: RingEngine>(
     let row = measured(engine, n, c, f)?;
     octets::decode(&row[0..n], width, out);
     Ok(())
+}
+
+// The message of the nearest words of coefficients times f, in the first bytes of an array.
+pub(crate) fn message<Q: RingEngine>(
+    engine: &mut Q,
+    n: usize,
+    c: &[u16; 1024],
+    f: &[i16; 1024],
+    width: Width,
+) -> Result<[u8; 64], Refusal>
+    requires engine { ⌜ (degree (now engine) ≡ n) × (modulus (now engine) ≡ 2048) × (n ≤ 1024) × (0 < n) ⌝ }
+    requires row { ⌜ all-below 2048 (take n (now c)) ≡ true ⌝ }
+    ensures sized { λ _. ⌜ degree (now (engine .exit)) ≡ degree (now (engine .entry)) ⌝ }
+    ensures modular { λ _. ⌜ modulus (now (engine .exit)) ≡ modulus (now (engine .entry)) ⌝ }
+    ensures obeyed { λ r. ⌜ isOk r ≡ true ⌝ }
+    ensures value { λ r. ⌜ made r (λ bytes. take (n / 16) bytes ≡ decoded (width .bits) (measuredOf n (take n (now (f .entry))) (take n (now (c .entry)))) (n / 16)) ⌝ }
+{
+    let mut out = [0u8; 64];
+    decode(engine, n, c, f, width, &mut out[0..n / 16])?;
+    Ok(out)
 }

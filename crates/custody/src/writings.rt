@@ -2,7 +2,7 @@
 ghost use mathlib.Core.Path.{_≡_};
 ghost use Rattle.custody.specs.Calls.{emptied, put};
 ghost use Rattle.custody.specs.Checks.{deposit as depositReply, join as joinReply, trim as trimReply, held, plain};
-ghost use Rattle.custody.specs.Told.{ready, tells};
+ghost use Rattle.custody.specs.Told.{tells};
 ghost use Rattle.custody.specs.Views.{book};
 use crate::lines;
 use crate::station::Station;
@@ -17,7 +17,9 @@ impl<P: RingEngine, Q: RingEngine> Station<P, Q> {
         ensures answers { λ r. ⌜ r ≡ plain (depositReply (now (self .entry) .register .key) (tells (P·RingEngine .degree (now (self .entry) .field)) (P·RingEngine .modulus (now (self .entry) .field)) (Q·RingEngine .degree (now (self .entry) .binary)) (Q·RingEngine .modulus (now (self .entry) .binary))) (book (now (self .entry) .register)) place width (now (noise .entry)) (now (message .entry))) ⌝ }
         ensures places { λ _. ⌜ book (now (self .exit) .register) ≡ put (book (now (self .entry) .register)) place (depositReply (now (self .entry) .register .key) (tells (P·RingEngine .degree (now (self .entry) .field)) (P·RingEngine .modulus (now (self .entry) .field)) (Q·RingEngine .degree (now (self .entry) .binary)) (Q·RingEngine .modulus (now (self .entry) .binary))) (book (now (self .entry) .register)) place width (now (noise .entry)) (now (message .entry))) ⌝ }
     {
-        self.keyed()?;
+        if !self.keyed() {
+            return Err(Refusal::Unkeyed);
+        }
         let width = self.register.vacant(place, width, noise, message)?;
         let key = self.register.key;
         let filled = lines::deposited(&mut self.field, &mut self.binary, &key, width, noise, message)?;
@@ -32,7 +34,9 @@ impl<P: RingEngine, Q: RingEngine> Station<P, Q> {
         ensures answers { λ r. ⌜ r ≡ plain (joinReply (now (self .entry) .register .key) (tells (P·RingEngine .degree (now (self .entry) .field)) (P·RingEngine .modulus (now (self .entry) .field)) (Q·RingEngine .degree (now (self .entry) .binary)) (Q·RingEngine .modulus (now (self .entry) .binary))) (book (now (self .entry) .register)) first second) ⌝ }
         ensures places { λ _. ⌜ book (now (self .exit) .register) ≡ emptied (put (book (now (self .entry) .register)) first (joinReply (now (self .entry) .register .key) (tells (P·RingEngine .degree (now (self .entry) .field)) (P·RingEngine .modulus (now (self .entry) .field)) (Q·RingEngine .degree (now (self .entry) .binary)) (Q·RingEngine .modulus (now (self .entry) .binary))) (book (now (self .entry) .register)) first second)) second (joinReply (now (self .entry) .register .key) (tells (P·RingEngine .degree (now (self .entry) .field)) (P·RingEngine .modulus (now (self .entry) .field)) (Q·RingEngine .degree (now (self .entry) .binary)) (Q·RingEngine .modulus (now (self .entry) .binary))) (book (now (self .entry) .register)) first second) ⌝ }
     {
-        self.keyed()?;
+        if !self.keyed() {
+            return Err(Refusal::Unkeyed);
+        }
         self.register.join(first, second)
     }
 
@@ -43,7 +47,9 @@ impl<P: RingEngine, Q: RingEngine> Station<P, Q> {
         ensures answers { λ r. ⌜ r ≡ plain (trimReply (now (self .entry) .register .key) (tells (P·RingEngine .degree (now (self .entry) .field)) (P·RingEngine .modulus (now (self .entry) .field)) (Q·RingEngine .degree (now (self .entry) .binary)) (Q·RingEngine .modulus (now (self .entry) .binary))) (book (now (self .entry) .register)) place) ⌝ }
         ensures places { λ _. ⌜ book (now (self .exit) .register) ≡ put (book (now (self .entry) .register)) place (trimReply (now (self .entry) .register .key) (tells (P·RingEngine .degree (now (self .entry) .field)) (P·RingEngine .modulus (now (self .entry) .field)) (Q·RingEngine .degree (now (self .entry) .binary)) (Q·RingEngine .modulus (now (self .entry) .binary))) (book (now (self .entry) .register)) place) ⌝ }
     {
-        self.keyed()?;
+        if !self.keyed() {
+            return Err(Refusal::Unkeyed);
+        }
         let filled = self.register.filled(place)?;
         let Some(width) = filled.width.narrower() else {
             return Err(Refusal::Width);
@@ -61,7 +67,9 @@ impl<P: RingEngine, Q: RingEngine> Station<P, Q> {
         ensures answers { λ r. ⌜ r ≡ plain (held (now (self .entry) .register .key) (tells (P·RingEngine .degree (now (self .entry) .field)) (P·RingEngine .modulus (now (self .entry) .field)) (Q·RingEngine .degree (now (self .entry) .binary)) (Q·RingEngine .modulus (now (self .entry) .binary))) (book (now (self .entry) .register)) place) ⌝ }
         ensures places { λ _. ⌜ book (now (self .exit) .register) ≡ emptied (book (now (self .entry) .register)) place (held (now (self .entry) .register .key) (tells (P·RingEngine .degree (now (self .entry) .field)) (P·RingEngine .modulus (now (self .entry) .field)) (Q·RingEngine .degree (now (self .entry) .binary)) (Q·RingEngine .modulus (now (self .entry) .binary))) (book (now (self .entry) .register)) place) ⌝ }
     {
-        self.keyed()?;
+        if !self.keyed() {
+            return Err(Refusal::Unkeyed);
+        }
         self.register.filled(place)?;
         self.register.empty(place);
         Ok(())
