@@ -1,8 +1,16 @@
 pub mod BookLaws
+pub mod DueBits
+pub mod Entering
+pub mod Fillings
 pub mod Fronts
+pub mod Keeping
 pub mod Obeying
+pub mod Outcomes
 pub mod Packings
 pub mod Reducing
 pub mod RowParts
 pub mod SameBytes
+pub mod SoundLedgers
 pub mod Tellings
+pub mod TiedKeys
+pub mod Performing

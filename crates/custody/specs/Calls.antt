@@ -14,10 +14,12 @@ use Rattle.custody.specs.declared.key.Key.{Key}
 use Rattle.custody.specs.declared.call.Call.{Call}
 use Rattle.custody.specs.declared.call.Call.the-variants.{Deposit, Join, Trim, Clear, Open, HandOut, Publish, Tell, Alike}
 use Rattle.custody.specs.declared.call.Answer.{Answer}
-use Rattle.custody.specs.declared.call.Answer.the-variants.{Done, Told as Holding, Likeness, Refused}
+use Rattle.custody.specs.declared.call.Answer.the-variants.{Done, Told as Holds, Likeness, Refused}
 use Rattle.custody.specs.Keys.{h-of}
 use Rattle.custody.specs.Told.{Told}
 use Rattle.custody.specs.Books.{Line, Book}
+use Rattle.custody.specs.declared.holding.Holding.{Holding}
+use Rattle.custody.specs.Views.{holding}
 use Rattle.custody.specs.Checks.{Reply, deposit, join, trim, held, opened, open-reply, hand-out, publish, both-held}
 
 -- whether two messages are the same, byte by byte
@@ -32,8 +34,8 @@ abbrev pub done : {X : Type 0} → Reply X → Answer
 done (Ok x) = Done
 done (Err e) = Refused e
 
-abbrev pub told-of : Reply Line → Answer
-told-of (Ok a) = Holding (a .width) (a .allowance)
+abbrev pub told-of : Reply Holding → Answer
+told-of (Ok a) = Holds (a .width) (a .allowance)
 told-of (Err e) = Refused e
 
 -- alike: both places open to the same bits
@@ -54,7 +56,7 @@ answer key told book (Clear place) size = done (held key told book place)
 answer key told book (Open place) size = done (open-reply key told book place size)
 answer key told book (HandOut place) size = done (hand-out key told book place size)
 answer key told book Publish size = done (publish key told size)
-answer key told book (Tell place) size = told-of (held key told book place)
+answer key told book (Tell place) size = told-of (holding (held key told book place))
 answer key told book (Alike first second) size = likeness (likeness-reply key (both-held key told book first second))
 
 -- the book with a new line at a place, where the call was obeyed

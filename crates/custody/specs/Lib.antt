@@ -9,4 +9,5 @@ pub mod Views
 pub mod Calls
 pub mod Ledger
 pub mod Promise
+pub mod Exchanges
 pub mod Sealing

@@ -1,9 +1,10 @@
 -- What is promised of a station after any list of calls.
 use mathlib.Core.Path.{_≡_}
-use mathlib.Core.List.{List, [], _∷_}
+use mathlib.Core.List.{List, [], _∷_, map}
 use Prim.Native.Nat.{ℕ, _-_, _*_, _/_, _<_, _≤_}
 use lib.IntN.{ℤ}
 use lib.ListN.{length}
+use Rattle.std.specs.declared.option.Option.{Option}
 use Rattle.std.specs.declared.option.Option.the-variants.{Some}
 use Rattle.std.specs.declared.result.Result.the-variants.{Ok, Err}
 use Rattle.ring.specs.declared.refusal.Refusal.the-variants.{TooNoisy}
@@ -20,8 +21,8 @@ use Rattle.custody.specs.Keys.{f-of, g-of, h-of}
 use Rattle.custody.specs.Told.{Told}
 use Rattle.custody.specs.Books.{Line, Book, at}
 use Rattle.custody.specs.Checks.{deposit, opened, open-reply}
-use Rattle.custody.specs.Calls.{answer, buffer-after}
-use Rattle.custody.specs.Ledger.{Ledger, due, entered, ledger-of}
+use Rattle.custody.specs.Calls.{answer, after, buffer-after}
+use Rattle.custody.specs.Ledger.{due, ledger-of}
 
 -- in each octet the squared distance of c times f from the due word is at most the squared allowance,
 -- and the allowance is below the radius
@@ -54,8 +55,12 @@ abbrev pub Asked : Type 0
 Asked = Call × List ℕ
 
 -- every call is obeyed or declined as in the ledger, with the same number, and its buffer holds what the ledger says
-unfoldable pub replies : Key → Told → Ledger → List Asked → List (Answer × List ℕ)
-replies key told ledger [] = []
-replies key told ledger (x ∷ asked) =
-    (answer key told (ledger .lines) (x .0) (length (x .1)), buffer-after key told (ledger .lines) (x .0) (x .1))
-    ∷ replies key told (entered key told ledger (x .0)) asked
+unfoldable pub replies : Key → Told → Book → List Asked → List (Answer × List ℕ)
+replies key told lines [] = []
+replies key told lines (x ∷ asked) =
+    (answer key told lines (x .0) (length (x .1)), buffer-after key told lines (x .0) (x .1))
+    ∷ replies key told (after key told lines (x .0)) asked
+
+-- answers that were given
+abbrev pub given : List (Answer × List ℕ) → List (Option Answer × List ℕ)
+given rs = map (λ p. (Some (p .0), p .1)) rs
