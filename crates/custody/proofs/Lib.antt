@@ -14,3 +14,5 @@ pub mod SoundLedgers
 pub mod Tellings
 pub mod TiedKeys
 pub mod Performing
+pub mod Running
+pub mod Exchanging

@@ -45,3 +45,18 @@ impl<P: RingEngine, Q: RingEngine> Station<P, Q> {
         }
     }
 }
+
+// Commissions a draft and carries out a list of calls: whatever the draft, the engines and the list,
+// the station matches its ledger, every filled place is near its due words and opens to its due bits,
+// and no fair deposit is declined.
+pub fn replay<P: RingEngine, Q: RingEngine>(draft: Draft<P, Q>, exchanges: &mut [Exchange<'_>]) -> Station<P, Q>
+    ensures key { λ r. ⌜ r .register .key ≡ draft .key ⌝ }
+    ensures told { λ r. ⌜ (tells (P·RingEngine .degree (r .field)) (P·RingEngine .modulus (r .field)) (Q·RingEngine .degree (r .binary)) (Q·RingEngine .modulus (r .binary))) ≡ (tells (P·RingEngine .degree (draft .field)) (P·RingEngine .modulus (draft .field)) (Q·RingEngine .degree (draft .binary)) (Q·RingEngine .modulus (draft .binary))) ⌝ }
+    ensures calls { λ _. ⌜ calls-of (now (exchanges .exit)) ≡ calls-of (now (exchanges .entry)) ⌝ }
+    ensures replied { λ _. ⌜ replied-of (now (exchanges .exit)) ≡ given (replies (draft .key) (tells (P·RingEngine .degree (draft .field)) (P·RingEngine .modulus (draft .field)) (Q·RingEngine .degree (draft .binary)) (Q·RingEngine .modulus (draft .binary))) empty-book (asked-of (now (exchanges .entry)))) ⌝ }
+    ensures kept { λ r. ⌜ Kept (draft .key) (tells (P·RingEngine .degree (draft .field)) (P·RingEngine .modulus (draft .field)) (Q·RingEngine .degree (draft .binary)) (Q·RingEngine .modulus (draft .binary))) (calls-of (now (exchanges .entry))) (book (r .register)) ⌝ }
+{
+    let mut station = draft.commission();
+    station.carry_out(exchanges);
+    station
+}
