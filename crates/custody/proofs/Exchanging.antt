@@ -61,19 +61,19 @@ module _ (key : Key) (told : Told) (start : Book) (old : List Exchange) (i : ℕ
 
   pub going-on : Going key told start old (i + 1) end (set xs i next)
   going-on = record {
-      places = end-is ∙ ap (λ b. after key told b (x .call)) (going .places)
+    places = end-is ∙ ap (λ b. after key told b (x .call)) (going .places)
         ∙ sym (run-more key told start (calls-of (take i old)) (x .call))
         ∙ ap (run key told start) (sym (mapped-more (λ y. y .call)));
-      calls = map-set (λ y. y .call) xs i next
+    calls = map-set (λ y. y .call) xs i next
         ∙ ap (set (calls-of xs) i) (call-is ∙ ap (λ y. y .call) x-is ∙ sym (List·getD-map (λ y. y .call) xs i d))
         ∙ set-getD (calls-of xs) i (d .call) ∙ going .calls;
-      replied = ap replied-of (take-more-set xs i next (omega arith)) ∙ map-append (λ y. (y .answer, vec-items (y .buffer))) (take i xs) (next ∷ [])
+    replied = ap replied-of (take-more-set xs i next (omega arith)) ∙ map-append (λ y. (y .answer, vec-items (y .buffer))) (take i xs) (next ∷ [])
         ∙ ap₂ (λ u v. u ++ v ∷ []) (going .replied)
-          (ap₂ (λ u v. (u, v)) answer-is buffer-is ∙ ap (λ b. given-one (reply key told b (x .call, vec-items (x .buffer)))) book-is)
+        (ap₂ (λ u v. (u, v)) answer-is buffer-is ∙ ap (λ b. given-one (reply key told b (x .call, vec-items (x .buffer)))) book-is)
         ∙ sym (map-append given-one (replies key told start (asked-of (take i old))) (reply key told (run key told start (map (λ y. y .0) (asked-of (take i old)))) (x .call, vec-items (x .buffer)) ∷ []))
         ∙ ap given (sym (replies-more key told start (asked-of (take i old)) (x .call, vec-items (x .buffer))))
         ∙ ap (λ w. given (replies key told start w)) (sym (mapped-more (λ y. (y .call, vec-items (y .buffer)))));
-      rest = drop-set-lt (i + 1) xs i next (omega arith)
+    rest = drop-set-lt (i + 1) xs i next (omega arith)
         ∙ sym (drop-drop 1 i xs) ∙ ap (drop 1) (going .rest) ∙ drop-drop 1 i old;
   }
     where

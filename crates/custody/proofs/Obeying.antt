@@ -4,8 +4,9 @@ use mathlib.Core.Bool.{true}
 use mathlib.Core.List.{List, _++_}
 use Prim.Native.Nat.{ℕ, _-_, _≤_}
 use native.Mathlib.Omega.{arith}
-use lib.ListN.{length, take}
-use Rattle.std.proofs.shelf.Lists.{length-take-le, take-at}
+use borrow.Rule.Slice.PartMut.{postOf}
+use lib.ListN.{length, take, drop}
+use Rattle.std.proofs.shelf.Lists.{length-take-le, take-at, drop-at}
 use Rattle.std.proofs.shelf.Ways.{tells}
 use Rattle.std.specs.declared.result.Result.{Result}
 use Rattle.std.specs.declared.result.Result.the-variants.{Ok, Err}
@@ -46,3 +47,7 @@ module _ (d m n : ℕ) (a b out : List ℕ) (size : d ≡ n) (small : n ≤ 1024
   front-fills new rest l e =
       take-at new rest n (l ∙ long out lo ∙ size) ∙ e ∙ fills d m (take k a) (take k b) (take k out) answer
       ∙ ap₂ (λ (i j : ℕ). product-mod m i (take j a) (take j b)) size cut
+
+  -- and the rest of the buffer is as it was
+  pub front-rest : (new : List ℕ) → length new ≡ length (take k out) → drop n (new ++ postOf 0 k out) ≡ drop n out
+  front-rest new l = drop-at new (postOf 0 k out) n (l ∙ long out lo ∙ size) ∙ ap (λ (j : ℕ). drop j out) cut

@@ -1,52 +1,72 @@
--- What packing answers of rows and keys that are known to fit.
+-- Rows and their bytes, where degrees are multiples of sixteen.
 use mathlib.Core.Path.{_≡_, refl, sym, ap, ap₂, _∙_}
-use mathlib.Core.Bool.{Bool, true, false, cond, _&&_}
-use mathlib.Core.List.{List}
-use mathlib.Core.Logic.{_⊎_, inl, inr}
-use Prim.Native.Nat.{ℕ, _+_, _-_, _*_, _/_, _%_, _^_, _<_, _≤_}
-use native.Mathlib.Nat.{div-add-mod, mul-assoc}
+use mathlib.Core.Bool.{true, _&&_}
+use mathlib.Core.List.{List, [], _∷_, _++_}
+use Prim.Native.Nat.{ℕ, _-_, _*_, _/_, _%_, _^_, _≤_}
+use native.Mathlib.Nat.{div-add-mod, mul-div-cancel}
 use native.Mathlib.Omega.{arith}
-use lib.Dec.{leb, ltb, eqb}
+use lib.Dec.{ltb}
 use lib.ListN.{length, take}
-use Rattle.std.proofs.shelf.Tests.{cases-eq, eq-eqb, ne-eqb, le-leb}
+use lib.Pow.{pow-mono}
+use Rattle.std.proofs.shelf.Lists.{length-take-le, take-at}
+use Rattle.std.proofs.shelf.Ways.{tells}
 use Rattle.std.specs.declared.result.Result.{Result}
-use Rattle.std.specs.declared.result.Result.the-variants.{Ok, Err}
+use Rattle.std.specs.declared.result.Result.the-variants.{Ok}
 use Rattle.ring.specs.declared.refusal.Refusal.{Refusal}
-use Rattle.ring.specs.declared.refusal.Refusal.the-variants.{Mismatch, Length, Width, Residue}
-use Rattle.packing.specs.Digits.{all-below}
-use Rattle.packing.specs.Answers as packing
-use Rattle.custody.specs.Calls.{written}
-use Rattle.custody.specs.Checks.{buffered}
+use Rattle.ring.specs.Engines.{all-below}
+use Rattle.packing.specs.Digits.{unpacked, all-below as all-low}
+use Rattle.packing.specs.Answers.{lengths-answer, pack-row-answer, unpack-key-answer, written}
+use Rattle.packing.proofs.Below.{below-higher}
+use Rattle.packing.proofs.Trips.{unpacked-below}
 
--- two comparisons that come out alike
-eqb-alike : (a b c d : ℕ) → (a ≡ b → c ≡ d) → (c ≡ d → a ≡ b) → eqb a b ≡ eqb c d
-eqb-alike a b c d f g =
-    elim (cases-eq a b) [
-      inl e ↦ eq-eqb a b e ∙ sym (eq-eqb c d (f e))
-    | inr n ↦ ne-eqb a b n ∙ sym (ne-eqb c d (λ e. n (g e))) ]
+-- the two crates mean the same by 'each number is below m'
+pub low-below : (m : ℕ) (xs : List ℕ) → all-low m xs ≡ all-below m xs
+low-below m [] = refl
+low-below m (x ∷ xs) = ap (λ t. ltb x m && t) (low-below m xs)
 
--- numbers of w bits, a multiple of 16 of them, fill whole bytes
-whole-bytes : (n w size : ℕ) → n % 16 ≡ 0 → eqb (size * 8) (n * w) ≡ eqb size (n * w / 8)
-whole-bytes n w size e =
-    let q : ℕ = n / 16 in
-    let n-is : n ≡ 16 * q = omega (arith, div-add-mod n 16) in
-    let p : n * w ≡ 16 * (q * w) = ap (λ k. k * w) n-is ∙ mul-assoc 16 q w in
-    eqb-alike (size * 8) (n * w) size (n * w / 8) (λ h. omega (arith, p)) (λ h. omega (arith, p))
+-- sixteens of w bits fill whole bytes
+pub whole-bytes : (n w : ℕ) → n % 16 ≡ 0 → n * w / 8 * 8 ≡ n * w
+whole-bytes n w sixteens =
+    let e : n * w ≡ n / 16 * 2 * w * 8 = ap (λ k. k * w) (let d : n ≡ n / 16 * 16 = omega (arith, div-add-mod n 16) in d) ∙ omega arith in
+    ap (λ k. k / 8 * 8) e ∙ ap (λ k. k * 8) (mul-div-cancel (n / 16 * 2 * w) (omega arith)) ∙ sym e
 
-pub row-answer : (w n : ℕ) (row : List ℕ) (size : ℕ) → 8 ≤ w → w ≤ 12 → n % 16 ≡ 0 → length row ≡ n → all-below (2 ^ w) row ≡ true
-    → packing.pack-row-answer w row size ≡ buffered (n * w / 8) size tt
-row-answer w n row size low high e l t =
-    ap (λ b. cond b (cond (eqb (size * 8) (length row * w)) (cond (all-below (2 ^ w) row) (Ok tt) (Err Residue)) (Err Length)) (Err Width))
-      (ap₂ _&&_ (le-leb 8 w low) (le-leb w 12 high))
-    ∙ ap₂ (λ b c. cond b (cond c (Ok tt) (Err Residue)) (Err Length)) (ap (λ k. eqb (size * 8) (k * w)) l ∙ whole-bytes n w size e) t
+-- a number of at most 11 bits is below 2048
+pub unpacked-low : (w n : ℕ) (bytes row : List ℕ) → w ≤ 11 → row ≡ unpacked w n bytes → all-below 2048 row ≡ true
+unpacked-low w n bytes row h e =
+    ap (all-below 2048) e ∙ sym (low-below 2048 (unpacked w n bytes))
+    ∙ below-higher (2 ^ w) 2048 (unpacked w n bytes) (pow-mono {i = w} {j = 11} h) (unpacked-below w n bytes)
 
-pub key-answer : (n : ℕ) (row : List ℕ) (size : ℕ) → 0 < n → n ≤ 1024 → n % 16 ≡ 0 → length row ≡ n → all-below 3457 row ≡ true
-    → packing.pack-key-answer n row size ≡ buffered (n * 12 / 8) size tt
-key-answer n row size some high e l t =
-    ap (λ b. cond b (cond (eqb (length row) n && eqb size (n * 12 / 8)) (cond (all-below 3457 row) (Ok tt) (Err Residue)) (Err Length)) (Err Mismatch))
-      (ap₂ _&&_ (eq-eqb (n % 16) 0 e) (ap₂ _&&_ (le-leb 16 n (omega arith)) (le-leb n 1024 high)))
-    ∙ ap₂ (λ b c. cond (b && eqb size (n * 12 / 8)) (cond c (Ok tt) (Err Residue)) (Err Length)) (eq-eqb (length row) n l) t
+-- what was unpacked into the first n places, which the code cuts at n - 0
+module _ (n : ℕ) (row new rest : List ℕ) (small : n ≤ 1024) (long : length row ≡ 1024) (filled : length new ≡ length (take (n - 0) row)) where
+  size : length (take (n - 0) row) ≡ n
+  size = length-take-le (n - 0) row (omega arith) ∙ omega arith
 
-pub written-same : (r : Result (Unit {0}) Refusal) (new old : List ℕ) → packing.written r new old ≡ written r (λ _. new) old
-written-same (Ok x) new old = refl
-written-same (Err x) new old = refl
+  front : take n (new ++ rest) ≡ new
+  front = take-at new rest n (filled ∙ size)
+
+  cut : take (n - 0) row ≡ take n row
+  cut = ap (λ k. take k row) (omega arith)
+
+  pub key-answer-is : (r : Result (Unit {0}) Refusal) (bytes : List ℕ) → r ≡ unpack-key-answer n bytes (length (take (n - 0) row)) → r ≡ unpack-key-answer n bytes n
+  key-answer-is r bytes e = e ∙ ap (λ k. unpack-key-answer n bytes k) size
+
+  pub key-front : (r : Result (Unit {0}) Refusal) (bytes : List ℕ) → new ≡ written r (unpacked 12 n bytes) (take (n - 0) row)
+      → take n (new ++ rest) ≡ written r (unpacked 12 n bytes) (take n row)
+  key-front r bytes e = front ∙ e ∙ ap (λ old. written r (unpacked 12 n bytes) old) cut
+
+  pub row-obeys : (w bits : ℕ) (r : Result (Unit {0}) Refusal) (bytes : List ℕ) → bits ≡ w → 8 ≤ w → w ≤ 11 → length bytes * 8 ≡ n * w
+      → r ≡ lengths-answer bits (length (take (n - 0) row)) (length bytes) → r ≡ Ok tt
+  row-obeys w bits r bytes b low high l e = e ∙ ap₂ (λ v k. lengths-answer v k (length bytes)) b size ∙ grind (arith, tells)
+
+  pub row-front : (w bits : ℕ) (r : Result (Unit {0}) Refusal) (bytes : List ℕ) → bits ≡ w → r ≡ Ok tt
+      → new ≡ written r (unpacked bits (length (take (n - 0) row)) bytes) (take (n - 0) row) → take n (new ++ rest) ≡ unpacked w n bytes
+  row-front w bits r bytes b ok e =
+      front ∙ e ∙ ap (λ a. written a (unpacked bits (length (take (n - 0) row)) bytes) (take (n - 0) row)) ok ∙ ap₂ (λ v k. unpacked v k bytes) b size
+
+-- a row of n numbers of w bits is packed
+pub row-packs : (w : ℕ) (row : List ℕ) (bytes : ℕ) → 8 ≤ w → w ≤ 11 → bytes * 8 ≡ length row * w → all-below (2 ^ w) row ≡ true → pack-row-answer w row bytes ≡ Ok tt
+row-packs w row bytes low high l t = let s = low-below (2 ^ w) row ∙ t in grind (arith, tells)
+
+-- bytes that are as many as sixteens of w bits need
+pub bytes-fill : (n read w bytes : ℕ) → n % 16 ≡ 0 → read ≡ w → bytes ≡ n * read / 8 → bytes * 8 ≡ n * w
+bytes-fill n read w bytes sixteens same l = ap (λ k. k * 8) (l ∙ ap (λ v. n * v / 8) same) ∙ whole-bytes n w sixteens

@@ -73,12 +73,12 @@ take-embedded n k w row message h =
     ext-getD 0 (take n (embedded-row k w row message)) (embedded-row n w (take n row) message)
     (omega (arith, l, l2, l3))
     (λ i g.
-      let i-low : i < n = omega (arith, l2) in
-      let i-in : i < k = omega arith in
-      getD-take n (embedded-row k w row message) i 0 i-low
-      ∙ getD-embedded-row k w row message i 0 i-in
-      ∙ ap (λ x. embedded w x (position message i)) (sym (getD-take n row i 0 i-low))
-      ∙ sym (getD-embedded-row n w (take n row) message i 0 i-low))
+    let i-low : i < n = omega (arith, l2) in
+    let i-in : i < k = omega arith in
+    getD-take n (embedded-row k w row message) i 0 i-low
+    ∙ getD-embedded-row k w row message i 0 i-in
+    ∙ ap (λ x. embedded w x (position message i)) (sym (getD-take n row i 0 i-low))
+    ∙ sym (getD-embedded-row n w (take n row) message i 0 i-low))
 
 pub halvings-below : (xs : List ℕ) → all-below 2 (map halving xs) ≡ true
 halvings-below xs = map-below 2 halving (λ x. mod-lt x (omega arith)) xs

@@ -24,7 +24,8 @@ ready-is n told t =
       field-degree = eqb-true (told .field-degree) n (q .1);
       field-modulus = eqb-true (told .field-modulus) 3457 (s .0);
       binary-degree = eqb-true (told .binary-degree) (told .field-degree) (r .0);
-      binary-modulus = eqb-true (told .binary-modulus) 2048 (s .1) }
+      binary-modulus = eqb-true (told .binary-modulus) 2048 (s .1);
+    }
 
 pub tells-same : {a a′ b b′ c c′ d d′ : ℕ} → a ≡ a′ → b ≡ b′ → c ≡ c′ → d ≡ d′ → tells a b c d ≡ tells a′ b′ c′ d′
 tells-same p q r s = λ i. tells (p i) (q i) (r i) (s i)

@@ -4,8 +4,8 @@ use mathlib.Core.Bool.{Bool, true, false, cond, _&&_}
 use mathlib.Core.List.{List}
 use Prim.Native.Nat.{ℕ}
 use lib.Dec.{eqb, leb}
-use lib.IntN.{ℤ}
-use lib.ListN.{length}
+use lib.IntN.{ℤ, pos}
+use lib.ListN.{length, replicate}
 use Rattle.std.specs.declared.result.Result.{Result}
 use Rattle.std.specs.declared.result.Result.the-variants.{Ok, Err}
 use Rattle.std.specs.Results.{Cases}
@@ -18,6 +18,13 @@ use Rattle.wrapping.specs.Secrets.{all-small, secret, reduced-row}
 use Rattle.custody.specs.declared.key.Key.{Key}
 use Rattle.custody.specs.Keys.{f-of, g-of, h-of}
 use Rattle.custody.specs.Told.{Told, paired}
+
+-- the key of a draft that was not keyed yet: all zero
+pub record Unkeyed (key : Key) : Type 0 where
+  pub degree : key .degree ≡ 0
+  pub f-zero : key .f ≡ replicate 1024 (pos 0)
+  pub g-zero : key .g ≡ replicate 1024 (pos 0)
+  pub h-zero : key .h ≡ replicate 1024 0
 
 -- the checks before an inverse is looked for, in their order
 abbrev pub keying-check : Told → List ℤ → List ℤ → Result (Unit {0}) Refusal
@@ -34,6 +41,10 @@ pub record Inverts (n : ℕ) (f : List ℤ) (u : List ℕ) : Type 0 where
   pub residues : all-below 3457 u ≡ true
   pub one : product-mod 3457 n u (reduced-row 3457 (secret f)) ≡ numbers (unit (residue-ring 3456) n)
 
+-- no row does
+abbrev pub Uninvertible : ℕ → List ℤ → Type 0
+Uninvertible n f = (u : List ℕ) → Inverts n f u → ⊥
+
 -- the key that f' and g make: h is g times the inverse of f
 pub record Made (n : ℕ) (f g : List ℤ) (key : Key) : Type 0 where
   pub degree : key .degree ≡ n
@@ -46,7 +57,7 @@ pub record Made (n : ℕ) (f g : List ℤ) (key : Key) : Type 0 where
 -- past the checks: the key is made, or there is no inverse and the key is as it was
 abbrev pub Tried : ℕ → List ℤ → List ℤ → Key → Key → Result (Unit {0}) Refusal → Type 0
 Tried n f g before after r =
-    Cases r (λ _. Made n f g after) (λ e. (e ≡ NoInverse) × ((u : List ℕ) → Inverts n f u → ⊥) × (after ≡ before))
+    Cases r (λ _. Made n f g after) (λ e. (e ≡ NoInverse) × Uninvertible n f × (after ≡ before))
 
 -- keying as a whole: the answer, and the key before and after
 abbrev pub Keying : Told → List ℤ → List ℤ → Key → Key → Result (Unit {0}) Refusal → Type 0

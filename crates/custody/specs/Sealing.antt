@@ -22,6 +22,10 @@ use Rattle.wrapping.specs.Exact.{Exact, loudest}
 abbrev pub suits : ℕ → ℕ → ℕ → Bool
 suits n m wanted = leb n 1024 && eqb m wanted
 
+-- the width that such an engine goes on with, or 1 or 11
+abbrev pub suited : ℕ → ℕ → ℕ → ℕ → ℕ → Result ℕ Refusal
+suited lowest wanted n m w = cond (suits n m wanted) (cond (leb lowest w && leb w 11) (Ok w) (Err Width)) (Err Mismatch)
+
 -- the answer of sealing with an engine of degree n and modulus m
 abbrev pub seal-answer : ℕ → ℕ → ℕ → List ℕ → List ℤ → List ℕ → ℕ → Result (Unit {0}) Refusal
 seal-answer n m w key r message size =

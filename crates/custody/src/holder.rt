@@ -23,8 +23,15 @@ impl<P: RingEngine, Q: RingEngine> Draft<P, Q> {
         ensures places { λ r. ⌜ book (r .register) ≡ empty-book ⌝ }
     {
         let Draft { key, field, binary } = self;
-        let register = Register { key, places: [None; 8] };
-        Station { register, field, binary }
+        let register = Register {
+            key,
+            places: [None; 8],
+        };
+        Station {
+            register,
+            field,
+            binary,
+        }
     }
 }
 
@@ -49,7 +56,10 @@ impl<P: RingEngine, Q: RingEngine> Station<P, Q> {
 // Commissions a draft and carries out a list of calls: whatever the draft, the engines and the list,
 // the station matches its ledger, every filled place is near its due words and opens to its due bits,
 // and no fair deposit is declined.
-pub fn replay<P: RingEngine, Q: RingEngine>(draft: Draft<P, Q>, exchanges: &mut [Exchange<'_>]) -> Station<P, Q>
+pub fn replay<P: RingEngine, Q: RingEngine>(
+    draft: Draft<P, Q>,
+    exchanges: &mut [Exchange<'_>],
+) -> Station<P, Q>
     ensures key { λ r. ⌜ r .register .key ≡ draft .key ⌝ }
     ensures told { λ r. ⌜ (tells (P·RingEngine .degree (r .field)) (P·RingEngine .modulus (r .field)) (Q·RingEngine .degree (r .binary)) (Q·RingEngine .modulus (r .binary))) ≡ (tells (P·RingEngine .degree (draft .field)) (P·RingEngine .modulus (draft .field)) (Q·RingEngine .degree (draft .binary)) (Q·RingEngine .modulus (draft .binary))) ⌝ }
     ensures calls { λ _. ⌜ calls-of (now (exchanges .exit)) ≡ calls-of (now (exchanges .entry)) ⌝ }

@@ -54,7 +54,12 @@ impl<P: RingEngine, Q: RingEngine> Station<P, Q> {
         ensures writes { λ _. ⌜ now (buffer .exit) ≡ buffer-after (now (self .entry) .register .key) (tells (P·RingEngine .degree (now (self .entry) .field)) (P·RingEngine .modulus (now (self .entry) .field)) (Q·RingEngine .degree (now (self .entry) .binary)) (Q·RingEngine .modulus (now (self .entry) .binary))) (book (now (self .entry) .register)) (call .entry) (now (buffer .entry)) ⌝ }
     {
         match call {
-            Call::Deposit { place, width, noise, message } => done(self.deposit(place, width, noise, message)),
+            Call::Deposit {
+                place,
+                width,
+                noise,
+                message,
+            } => done(self.deposit(place, width, noise, message)),
             Call::Join { first, second } => done(self.join(first, second)),
             Call::Trim { place } => done(self.trim(place)),
             Call::Clear { place } => done(self.clear(place)),

@@ -2,7 +2,7 @@
 ghost use mathlib.Core.Path.{_≡_};
 ghost use mathlib.Core.Bool.{true};
 ghost use Prim.Native.Nat.{_/_, _<_, _≤_};
-ghost use lib.ListN.{length, take};
+ghost use lib.ListN.{drop, length, take};
 ghost use Rattle.std.specs.declared.result.Result.the-variants.{Ok};
 ghost use Rattle.std.specs.Vec.{made};
 ghost use Rattle.code.specs.Rows.{decoded, farthest};
@@ -14,7 +14,8 @@ use code::octets;
 use code::width::Width;
 use ring::engine::RingEngine;
 use ring::refusal::Refusal;
-use wrapping::secret;
+use wrapping::secret::reduce;
+use wrapping::secret::reduce_secret;
 
 // The product of the first n coefficients of two rows.
 pub(crate) fn multiply<E: RingEngine>(
@@ -30,6 +31,7 @@ pub(crate) fn multiply<E: RingEngine>(
     ensures modular { λ _. ⌜ modulus (now (engine .exit)) ≡ modulus (now (engine .entry)) ⌝ }
     ensures obeyed { λ r. ⌜ r ≡ Ok tt ⌝ }
     ensures product { λ _. ⌜ take n (now (out .exit)) ≡ product-mod (modulus (now (engine .entry))) n (take n (now (a .entry))) (take n (now (b .entry))) ⌝ }
+    ensures rest { λ _. ⌜ drop n (now (out .exit)) ≡ drop n (now (out .entry)) ⌝ }
 {
     engine.multiply(&a[0..n], &b[0..n], &mut out[0..n])
 }
@@ -49,7 +51,7 @@ pub(crate) fn sigma<P: RingEngine>(
     ensures value { λ r. ⌜ made r (λ row. take n row ≡ sigmaOf n (take n (now (h .entry))) (now (noise .entry))) ⌝ }
 {
     let mut residues = [0u16; 1024];
-    secret::reduce::<3456>(noise, &mut residues);
+    reduce::<3456>(noise, &mut residues);
     let mut out = [0u16; 1024];
     multiply(engine, n, h, &residues, &mut out)?;
     Ok(out)
@@ -70,7 +72,7 @@ pub(crate) fn measured<Q: RingEngine>(
     ensures value { λ r. ⌜ made r (λ row. take n row ≡ reduced-row 2048 (measuredOf n (take n (now (f .entry))) (take n (now (c .entry))))) ⌝ }
 {
     let mut secret = [0u16; 1024];
-    secret::reduce_secret::<2047>(f, &mut secret);
+    reduce_secret::<2047>(f, &mut secret);
     let mut out = [0u16; 1024];
     multiply(engine, n, c, &secret, &mut out)?;
     Ok(out)

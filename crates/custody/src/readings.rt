@@ -8,8 +8,8 @@ ghost use Rattle.custody.specs.Checks.{both-held, hand-out as handOutReply, he
 ghost use Rattle.custody.specs.Keys.{h-of};
 ghost use Rattle.custody.specs.Told.{ready, tells};
 ghost use Rattle.custody.specs.Views.{book, holding};
-use crate::outputs;
 use crate::holding::Holding;
+use crate::outputs;
 use crate::products;
 use crate::station::Station;
 use ring::engine::RingEngine;
@@ -44,7 +44,14 @@ impl<P: RingEngine, Q: RingEngine> Station<P, Q> {
         if out.len() != key.degree / 16 {
             return Err(Refusal::Length);
         }
-        products::decode(&mut self.binary, key.degree, &filled.coefficients, &key.f, filled.width, out)
+        products::decode(
+            &mut self.binary,
+            key.degree,
+            &filled.coefficients,
+            &key.f,
+            filled.width,
+            out,
+        )
     }
 
     // Writes the coefficients of a place in as many bits each as its width: 5, 6, 8, 2.

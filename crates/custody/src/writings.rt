@@ -11,7 +11,13 @@ use ring::refusal::Refusal;
 
 impl<P: RingEngine, Q: RingEngine> Station<P, Q> {
     // Wraps a message with the noise into an empty place: 5, 6, 7, 11, 2, 3, 12.
-    pub fn deposit(&mut self, place: usize, width: u32, noise: &[i16], message: &[u8]) -> Result<(), Refusal>
+    pub fn deposit(
+        &mut self,
+        place: usize,
+        width: u32,
+        noise: &[i16],
+        message: &[u8],
+    ) -> Result<(), Refusal>
         ensures key { λ _. ⌜ now (self .exit) .register .key ≡ now (self .entry) .register .key ⌝ }
         ensures told { λ _. ⌜ (tells (P·RingEngine .degree (now (self .exit) .field)) (P·RingEngine .modulus (now (self .exit) .field)) (Q·RingEngine .degree (now (self .exit) .binary)) (Q·RingEngine .modulus (now (self .exit) .binary))) ≡ (tells (P·RingEngine .degree (now (self .entry) .field)) (P·RingEngine .modulus (now (self .entry) .field)) (Q·RingEngine .degree (now (self .entry) .binary)) (Q·RingEngine .modulus (now (self .entry) .binary))) ⌝ }
         ensures answers { λ r. ⌜ r ≡ plain (depositReply (now (self .entry) .register .key) (tells (P·RingEngine .degree (now (self .entry) .field)) (P·RingEngine .modulus (now (self .entry) .field)) (Q·RingEngine .degree (now (self .entry) .binary)) (Q·RingEngine .modulus (now (self .entry) .binary))) (book (now (self .entry) .register)) place width (now (noise .entry)) (now (message .entry))) ⌝ }
@@ -22,7 +28,14 @@ impl<P: RingEngine, Q: RingEngine> Station<P, Q> {
         }
         let width = self.register.vacant(place, width, noise, message)?;
         let key = self.register.key;
-        let filled = lines::deposited(&mut self.field, &mut self.binary, &key, width, noise, message)?;
+        let filled = lines::deposited(
+            &mut self.field,
+            &mut self.binary,
+            &key,
+            width,
+            noise,
+            message,
+        )?;
         self.register.fill(place, filled);
         Ok(())
     }

@@ -28,4 +28,5 @@ returns g c =
       calls = q .calls;
       replied = q .replied ∙ ap₂ (λ k t. given (replies k t (book (s .register)) (asked-of xs))) (p .key) same ∙ ap (λ b. given (replies (d .key) T b (asked-of xs))) (p .places);
       kept = subst (λ k. Kept k T (calls-of xs) end) (p .key)
-        (subst (λ t. Kept (s .register .key) t (calls-of xs) end) same (q .kept [] (kept-start (s .register .key) first (book (s .register)) (p .places)))) }
+          (subst (λ t. Kept (s .register .key) t (calls-of xs) end) same (q .kept [] (kept-start (s .register .key) first (book (s .register)) (p .places))));
+    }

@@ -19,7 +19,8 @@ sigma-requires g c κs =
     let r = ready-is (key .degree) _ (c .pre .engines) in
     record {
       engine = (r .field-degree, r .field-modulus, key .size .1);
-      rows = (below-take 3457 (key .degree) (key .h) (key .«h_below»), c .pre .noise) }
+      rows = (below-take 3457 (key .degree) (key .h) (key .«h_below»), c .pre .noise);
+    }
 
 pub distance-requires : need.distance-requires
 distance-requires g c κs =
@@ -31,8 +32,9 @@ distance-requires g c κs =
     record {
       engine = (r .binary-degree ∙ r .field-degree, r .binary-modulus, key .size .1, r .some);
       row = below-take 2048 (key .degree) (c .embed .last .out)
-        (below-weaken (2 ^ w) 2048 (c .embed .last .out) (pow-mono high)
-        (wrapped-below w (c .in-Continue-sigma .sigma) (c .args .message .now) (c .embed .last .out) ls (c .embed .ensures))) }
+          (below-weaken (2 ^ w) 2048 (c .embed .last .out) (pow-mono high)
+          (wrapped-below w (c .in-Continue-sigma .sigma) (c .args .message .now) (c .embed .last .out) ls (c .embed .ensures)));
+    }
 
 pub quiet-requires : need.quiet-requires
 quiet-requires g c κs =
@@ -50,9 +52,10 @@ returns g c =
     let two = c .in-Continue-distance .ensures tt in
     let ls : length (c .in-Continue-sigma .sigma) ≡ 1024 = search needs in
     let row-is : take n (c .embed .last .out) ≡ embedded-row n w (sigma n (take n (key .h)) (c .args .noise .now)) m =
-      wrapped-front n w (c .in-Continue-sigma .sigma) m (c .embed .last .out) ls (key .size .1) (c .embed .ensures) ∙ ap (λ s. embedded-row n w s m) (one .value) in
+    wrapped-front n w (c .in-Continue-sigma .sigma) m (c .embed .last .out) ls (key .size .1) (c .embed .ensures) ∙ ap (λ s. embedded-row n w s m) (one .value) in
     record {
       told = tells-same (one .sized) (one .modular) (two .sized) (two .modular);
       answers = c .quiet .ensures n
-        ∙ ap₂ (λ row l. quiet (candidate w row l)) row-is
-          (c .root-up .ensures ∙ ap root-up (two .value ∙ ap (λ row. farthest w (measured n (take n (key .f)) row) m) row-is)) }
+          ∙ ap₂ (λ row l. quiet (candidate w row l)) row-is
+          (c .root-up .ensures ∙ ap root-up (two .value ∙ ap (λ row. farthest w (measured n (take n (key .f)) row) m) row-is));
+    }

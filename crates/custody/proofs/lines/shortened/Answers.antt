@@ -25,8 +25,9 @@ distance-requires g c κs =
     record {
       engine = (c .pre .engine .0, c .pre .engine .1, key .size .1, c .pre .engine .2);
       row = below-take 2048 (key .degree) (c .halvings .last .out)
-        (below-weaken 2 2048 (c .halvings .last .out) (lit≤ tt)
-        (ap (all-below 2) (halvings-is row (c .halvings .last .out) l (c .halvings .ensures)) ∙ halvings-below row)) }
+          (below-weaken 2 2048 (c .halvings .last .out) (lit≤ tt)
+          (ap (all-below 2) (halvings-is row (c .halvings .last .out) l (c .halvings .ensures)) ∙ halvings-below row));
+    }
 
 pub quiet-requires : need.quiet-requires
 quiet-requires g c κs =
@@ -46,12 +47,13 @@ returns g c =
     let l : length row ≡ 1024 = search needs in
     let e : c .args .width .bits ≡ w - 1 = omega (arith, c .pre .width) in
     let halvings-are : take n (c .halvings .last .out) ≡ map halving (take n row) =
-      ap (take n) (halvings-is row (c .halvings .last .out) l (c .halvings .ensures)) ∙ take-map halving n row in
+    ap (take n) (halvings-is row (c .halvings .last .out) l (c .halvings .ensures)) ∙ take-map halving n row in
     let loss-is : c .root-up-loss .result ≡ root-up (farthest w (measured n (take n (key .f)) (map halving (take n row))) []) =
-      c .root-up-loss .ensures ∙ ap root-up (two .value ∙ ap (λ r. farthest w (measured n (take n (key .f)) r) []) halvings-are) in
+    c .root-up-loss .ensures ∙ ap root-up (two .value ∙ ap (λ r. farthest w (measured n (take n (key .f)) r) []) halvings-are) in
     record {
       sized = two .sized;
       modular = two .modular;
       answers = c .quiet .ensures n
-        ∙ ap₂ (λ k r. quiet (candidate k r ((c .args .filled .allowance + c .root-up-loss .result + 1) / 2))) e (ap (take n) (c .halve .ensures) ∙ take-map (halved w) n row)
-        ∙ ap (λ x. quiet (candidate (w - 1) (map (halved w) (take n row)) ((c .args .filled .allowance + x + 1) / 2))) loss-is }
+          ∙ ap₂ (λ k r. quiet (candidate k r ((c .args .filled .allowance + c .root-up-loss .result + 1) / 2))) e (ap (take n) (c .halve .ensures) ∙ take-map (halved w) n row)
+          ∙ ap (λ x. quiet (candidate (w - 1) (map (halved w) (take n row)) ((c .args .filled .allowance + x + 1) / 2))) loss-is;
+    }

@@ -21,4 +21,4 @@ returns c = λ n.
     let b = c .args .second in
     c .quiet .ensures n
     ∙ ap (λ row. quiet (candidate (a .width .bits) row (a .allowance + b .allowance)))
-      (ap (take n) (c .add .ensures) ∙ take-joined (a .width .bits) n (a .coefficients) (b .coefficients))
+    (ap (take n) (c .add .ensures) ∙ take-joined (a .width .bits) n (a .coefficients) (b .coefficients))

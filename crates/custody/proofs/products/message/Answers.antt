@@ -20,4 +20,5 @@ returns g c =
       modular = one .modular;
       obeyed = refl;
       value = take-exact (c .decode .last .out) (drop (n / 16 - 0) zeros) (n / 16) (c .decode .kept .out ∙ long)
-        ∙ one .writes ∙ ap (decoded (c .args .width .bits) (measured n (take n (c .args .f .now)) (take n (c .args .c .now)))) long }
+          ∙ one .writes ∙ ap (decoded (c .args .width .bits) (measured n (take n (c .args .f .now)) (take n (c .args .c .now)))) long;
+    }

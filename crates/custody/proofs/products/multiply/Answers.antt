@@ -1,6 +1,6 @@
 use Prim.Native.Nat.{_-_}
 use borrow.Rule.Slice.PartMut.{postOf}
-use Rattle.custody.proofs.Obeying.{front-obeys, front-fills}
+use Rattle.custody.proofs.Obeying.{front-obeys, front-fills, front-rest}
 use Rattle.custody.proofs.products.multiply.Needs as need
 
 pub returns : need.returns
@@ -20,4 +20,7 @@ returns g c =
       product =
           front-fills d m n a b out (c .pre .engine .0) (c .pre .engine .1) (c .told-a) (c .told-b) (c .told-out) (c .pre .residues .0) (c .pre .residues .1)
           (c .multiply .last .out) (postOf 0 (n - 0) out) (c .multiply .kept .out) (c .multiply .ensures .writes);
+      rest =
+          front-rest d m n a b out (c .pre .engine .0) (c .pre .engine .1) (c .told-a) (c .told-b) (c .told-out) (c .pre .residues .0) (c .pre .residues .1)
+          (c .multiply .last .out) (c .multiply .kept .out);
     }

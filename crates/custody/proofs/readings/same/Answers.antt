@@ -14,7 +14,7 @@ returns-then-left-i c =
     let b = c .args .right .now in
     sym (c .loop-i .inv
     ∙ same-stops (take n a) (take n b) i (omega (arith, length-take n a, c .told-left)) (omega (arith, length-take n b, c .told-right))
-      (λ e. c .if-left-i .taken (sym (getD-take n a i 0 (c .loop-i-test .taken)) ∙ e ∙ getD-take n b i 0 (c .loop-i-test .taken))))
+    (λ e. c .if-left-i .taken (sym (getD-take n a i 0 (c .loop-i-test .taken)) ∙ e ∙ getD-take n b i 0 (c .loop-i-test .taken))))
 
 pub loop-i-again : need.loop-i-again
 loop-i-again c =
@@ -24,7 +24,7 @@ loop-i-again c =
     let b = c .args .right .now in
     c .loop-i .inv
     ∙ same-goes (take n a) (take n b) i (omega (arith, length-take n a, c .told-left)) (omega (arith, length-take n b, c .told-right))
-      (getD-take n a i 0 (c .loop-i-test .taken) ∙ c .if-left-i .left ∙ sym (getD-take n b i 0 (c .loop-i-test .taken)))
+    (getD-take n a i 0 (c .loop-i-test .taken) ∙ c .if-left-i .left ∙ sym (getD-take n b i 0 (c .loop-i-test .taken)))
 
 pub returns : need.returns
 returns c =

@@ -9,7 +9,8 @@ message-requires g c κs =
     let r = ready-is (key .degree) _ (sym (c .keyed .ensures) ∙ c .if-not-keyed .left) in
     record {
       engine = (r .binary-degree ∙ r .field-degree, r .binary-modulus, key .size .1, r .some);
-      row = filled-below (key .degree) (c .in-Continue-a .a) }
+      row = filled-below (key .degree) (c .in-Continue-a .a);
+    }
 
 pub message-requires-2 : need.message-requires-2
 message-requires-2 g c κs =
@@ -18,4 +19,5 @@ message-requires-2 g c κs =
     let one = c .in-Continue-left .ensures tt in
     record {
       engine = (one .sized ∙ r .binary-degree ∙ r .field-degree, one .modular ∙ r .binary-modulus, key .size .1, r .some);
-      row = filled-below (key .degree) (c .in-Continue-b .b) }
+      row = filled-below (key .degree) (c .in-Continue-b .b);
+    }

@@ -34,14 +34,16 @@ loop-x-again g c =
     let lent = c .as-mut-slice .ensures .value in
     let B = book (c .loop-x .self .register) in
     let ws = c .perform-answer .last .buffer in
-    let next : Exchange = record { call = x .call; buffer = refilled (x .buffer) ws; answer = Some (c .perform-answer .result) } in
-    (p .key ∙ inv .0, p .told ∙ inv .1,
+    let next : Exchange = record { call = x .call; buffer = refilled (x .buffer) ws; answer = Some (c .perform-answer .result) } in (
+      p .key ∙ inv .0,
+      p .told ∙ inv .1,
       going-on K T (book (was .register)) (c .args .exchanges .now) i B xs (inv .2) (c .loop-x-test .taken) (c .loop-x .kept .exchanges)
-      (c .x-item .result) x next _ refl refl
-      (ap Some (p .answers ∙ ap₂ (λ k t. answer k t B (x .call) (length (c .as-mut-slice .result .now))) (inv .0) (inv .1) ∙ ap (λ b. answer K T B (x .call) (length b)) lent))
-      (refilled-is (x .buffer) ws (omega (arith, c .perform-answer .kept .buffer, c .as-mut-slice .ensures .len))
-        ∙ p .writes ∙ ap₂ (λ k t. buffer-after k t B (x .call) (c .as-mut-slice .result .now)) (inv .0) (inv .1) ∙ ap (buffer-after K T B (x .call)) lent)
-      (p .places ∙ ap₂ (λ k t. after k t B (x .call)) (inv .0) (inv .1)))
+          (c .x-item .result) x next _ refl refl
+          (ap Some (p .answers ∙ ap₂ (λ k t. answer k t B (x .call) (length (c .as-mut-slice .result .now))) (inv .0) (inv .1) ∙ ap (λ b. answer K T B (x .call) (length b)) lent))
+          (refilled-is (x .buffer) ws (omega (arith, c .perform-answer .kept .buffer, c .as-mut-slice .ensures .len))
+          ∙ p .writes ∙ ap₂ (λ k t. buffer-after k t B (x .call) (c .as-mut-slice .result .now)) (inv .0) (inv .1) ∙ ap (buffer-after K T B (x .call)) lent)
+          (p .places ∙ ap₂ (λ k t. after k t B (x .call)) (inv .0) (inv .1)),
+    )
 
 pub returns : need.returns
 returns g c =
@@ -59,4 +61,5 @@ returns g c =
       told = inv .1;
       calls = inv .2 .calls;
       replied = ap replied-of (sym every) ∙ inv .2 .replied ∙ ap (λ w. given (replies K T B (asked-of w))) all;
-      kept = λ past kept. run-keeps K T past (calls-of old) B _ kept (inv .2 .places ∙ ap (λ w. run K T B (calls-of w)) all) }
+      kept = λ past kept. run-keeps K T past (calls-of old) B _ kept (inv .2 .places ∙ ap (λ w. run K T B (calls-of w)) all);
+    }

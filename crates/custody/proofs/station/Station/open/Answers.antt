@@ -9,4 +9,5 @@ decode-requires g c κs =
     let r = ready-is (key .degree) _ (sym (c .keyed .ensures) ∙ c .if-not-keyed .left) in
     record {
       engine = (r .binary-degree ∙ r .field-degree, r .binary-modulus, key .size .1, r .some);
-      row = filled-below (key .degree) (c .in-Continue-filled .filled) }
+      row = filled-below (key .degree) (c .in-Continue-filled .filled);
+    }

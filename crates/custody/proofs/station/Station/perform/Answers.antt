@@ -18,7 +18,8 @@ returns-in-Deposit g c =
       told = c .deposit .ensures .told;
       answers = c .done .ensures ∙ ap done (c .deposit .ensures .answers) ∙ done-plain _ ∙ ap (λ x. answer K T B x (length (c .args .buffer .now))) (sym e);
       places = c .deposit .ensures .places ∙ ap (λ x. after K T B x) (sym e);
-      writes = ap (λ x. buffer-after K T B x (c .args .buffer .now)) (sym e) }
+      writes = ap (λ x. buffer-after K T B x (c .args .buffer .now)) (sym e);
+    }
 
 pub returns-in-Join : need.returns-in-Join
 returns-in-Join g c =
@@ -32,7 +33,8 @@ returns-in-Join g c =
       told = c .join .ensures .told;
       answers = c .done-in-Join .ensures ∙ ap done (c .join .ensures .answers) ∙ done-plain _ ∙ ap (λ x. answer K T B x (length (c .args .buffer .now))) (sym e);
       places = c .join .ensures .places ∙ ap (λ x. after K T B x) (sym e);
-      writes = ap (λ x. buffer-after K T B x (c .args .buffer .now)) (sym e) }
+      writes = ap (λ x. buffer-after K T B x (c .args .buffer .now)) (sym e);
+    }
 
 pub returns-in-Trim : need.returns-in-Trim
 returns-in-Trim g c =
@@ -46,7 +48,8 @@ returns-in-Trim g c =
       told = c .trim .ensures .told;
       answers = c .done-in-Trim .ensures ∙ ap done (c .trim .ensures .answers) ∙ done-plain _ ∙ ap (λ x. answer K T B x (length (c .args .buffer .now))) (sym e);
       places = c .trim .ensures .places ∙ ap (λ x. after K T B x) (sym e);
-      writes = ap (λ x. buffer-after K T B x (c .args .buffer .now)) (sym e) }
+      writes = ap (λ x. buffer-after K T B x (c .args .buffer .now)) (sym e);
+    }
 
 pub returns-in-Clear : need.returns-in-Clear
 returns-in-Clear g c =
@@ -60,7 +63,8 @@ returns-in-Clear g c =
       told = c .clear .ensures .told;
       answers = c .done-in-Clear .ensures ∙ ap done (c .clear .ensures .answers) ∙ done-plain _ ∙ ap (λ x. answer K T B x (length (c .args .buffer .now))) (sym e);
       places = c .clear .ensures .places ∙ ap (λ x. after K T B x) (sym e);
-      writes = ap (λ x. buffer-after K T B x (c .args .buffer .now)) (sym e) }
+      writes = ap (λ x. buffer-after K T B x (c .args .buffer .now)) (sym e);
+    }
 
 pub returns-in-Open : need.returns-in-Open
 returns-in-Open g c =
@@ -74,7 +78,8 @@ returns-in-Open g c =
       told = c .«open» .ensures .told;
       answers = c .done-in-Open .ensures ∙ ap done (c .«open» .ensures .answers) ∙ done-plain _ ∙ ap (λ x. answer K T B x (length (c .args .buffer .now))) (sym e);
       places = c .«open» .ensures .places ∙ ap (λ x. after K T B x) (sym e);
-      writes = c .«open» .ensures .writes ∙ ap (λ x. buffer-after K T B x (c .args .buffer .now)) (sym e) }
+      writes = c .«open» .ensures .writes ∙ ap (λ x. buffer-after K T B x (c .args .buffer .now)) (sym e);
+    }
 
 pub returns-in-HandOut : need.returns-in-HandOut
 returns-in-HandOut g c =
@@ -88,7 +93,8 @@ returns-in-HandOut g c =
       told = refl;
       answers = c .done-in-HandOut .ensures ∙ ap done (c .hand-out .ensures .answers) ∙ done-plain _ ∙ ap (λ x. answer K T B x (length (c .args .buffer .now))) (sym e);
       places = ap (λ x. after K T B x) (sym e);
-      writes = c .hand-out .ensures .writes ∙ ap (λ x. buffer-after K T B x (c .args .buffer .now)) (sym e) }
+      writes = c .hand-out .ensures .writes ∙ ap (λ x. buffer-after K T B x (c .args .buffer .now)) (sym e);
+    }
 
 pub returns-in-Publish : need.returns-in-Publish
 returns-in-Publish g c =
@@ -102,7 +108,8 @@ returns-in-Publish g c =
       told = refl;
       answers = c .done-in-Publish .ensures ∙ ap done (c .publish .ensures .answers) ∙ ap (λ x. answer K T B x (length (c .args .buffer .now))) (sym e);
       places = ap (λ x. after K T B x) (sym e);
-      writes = c .publish .ensures .writes ∙ ap (λ x. buffer-after K T B x (c .args .buffer .now)) (sym e) }
+      writes = c .publish .ensures .writes ∙ ap (λ x. buffer-after K T B x (c .args .buffer .now)) (sym e);
+    }
 
 pub returns-in-Tell : need.returns-in-Tell
 returns-in-Tell g c =
@@ -116,7 +123,8 @@ returns-in-Tell g c =
       told = refl;
       answers = c .told .ensures ∙ ap told-of (c .tell .ensures) ∙ ap (λ x. answer K T B x (length (c .args .buffer .now))) (sym e);
       places = ap (λ x. after K T B x) (sym e);
-      writes = ap (λ x. buffer-after K T B x (c .args .buffer .now)) (sym e) }
+      writes = ap (λ x. buffer-after K T B x (c .args .buffer .now)) (sym e);
+    }
 
 pub returns-in-Alike : need.returns-in-Alike
 returns-in-Alike g c =
@@ -130,5 +138,5 @@ returns-in-Alike g c =
       told = c .alike .ensures .told;
       answers = c .likeness .ensures ∙ ap likeness (c .alike .ensures .answers) ∙ ap (λ x. answer K T B x (length (c .args .buffer .now))) (sym e);
       places = c .alike .ensures .places ∙ ap (λ x. after K T B x) (sym e);
-      writes = ap (λ x. buffer-after K T B x (c .args .buffer .now)) (sym e) }
-
+      writes = ap (λ x. buffer-after K T B x (c .args .buffer .now)) (sym e);
+    }
