@@ -1,8 +1,8 @@
 -- Rows whose numbers agree modulo 2 ^ w have the same distances, nearest words, decoded bytes and farthest octet.
-use Prim.Native.Nat.{ℕ, zero, suc, _+_, _*_, _/_, _^_, _<_, _≤_}
+use Prim.Native.Nat.{ℕ, suc, _+_, _*_, _/_, _^_, _<_}
 use mathlib.Core.Path.{_≡_, refl, sym, ap, ap₂, subst, _∙_}
 use mathlib.Core.List.{List, [], _∷_, map}
-use mathlib.Core.Logic.{_⊎_, inl, inr}
+use mathlib.Core.Logic.{inl, inr}
 use native.Mathlib.Omega.{arith}
 use lib.IntN.{ℤ, pos, _-ℤ_, natAbs}
 use lib.ListN.{length, getD}
@@ -10,7 +10,7 @@ use Rattle.std.specs.Iters.{counting}
 use Rattle.std.proofs.shelf.Lists.{getD-past}
 use Rattle.std.proofs.shelf.Tests.{cases-lt}
 use Rattle.code.specs.Widths.{radius}
-use Rattle.code.specs.Folds.{fold, Same}
+use Rattle.code.specs.Folds.{Same}
 use Rattle.code.specs.Words.{word}
 use Rattle.code.specs.Distances.{distance, nearest}
 use Rattle.code.specs.Messages.{number}

@@ -1,8 +1,8 @@
 -- Tests that are computed at every number below a bound.
-use mathlib.Core.Path.{_≡_, refl, subst, sym, ap, ap₂}
+use mathlib.Core.Path.{_≡_, refl, subst, sym, ap₂}
 use mathlib.Core.Bool.{Bool, true, false, _&&_}
 use mathlib.Core.List.{List, [], _∷_}
-use mathlib.Core.Logic.{_⊎_, inl, inr}
+use mathlib.Core.Logic.{inl, inr}
 use Prim.Native.Nat.{ℕ, zero, suc, _<_}
 use native.Mathlib.Omega.{arith}
 use lib.Dec.{eqb}

@@ -1,5 +1,5 @@
 -- A row that is near a message decodes to it.
-use Prim.Native.Nat.{ℕ, _+_, _*_, _/_, _%_, _<_, _≤_}
+use Prim.Native.Nat.{ℕ, _+_, _*_, _/_, _<_, _≤_}
 use mathlib.Core.Path.{_≡_, refl, sym, ap, ap₂, _∙_}
 use mathlib.Core.List.{List}
 use native.Mathlib.Nat.{mul-le-mul}
@@ -8,7 +8,7 @@ use lib.IntN.{ℤ}
 use lib.ListN.{length, getD}
 use Rattle.std.proofs.shelf.Counted.{fill-by-all}
 use Rattle.code.specs.Widths.{radius}
-use Rattle.code.specs.Distances.{distance, nearest}
+use Rattle.code.specs.Distances.{nearest}
 use Rattle.code.specs.Messages.{number}
 use Rattle.code.specs.Rows.{octet, decoded-byte, decoded, farthest}
 use Rattle.code.proofs.DistanceLaws.{sure}

@@ -1,22 +1,22 @@
 -- Squared distances: a small one is that of the nearest word, and what is moved a little stays near.
-use Prim.Native.Nat.{ℕ, zero, suc, _+_, _*_, _^_, _<_, _≤_}
+use Prim.Native.Nat.{ℕ, zero, suc, _+_, _*_, _<_, _≤_}
 use mathlib.Core.Path.{_≡_, refl, sym, ap, ap₂, subst, _∙_}
-use mathlib.Core.Bool.{Bool, true, false, cond, _&&_}
+use mathlib.Core.Bool.{true, cond}
 use mathlib.Core.List.{List, [], _∷_, map}
-use mathlib.Core.Logic.{_⊎_, inl, inr}
+use mathlib.Core.Logic.{inl, inr}
 use native.Mathlib.Nat.{mul-le-mul, mul-le-mul-right}
 use native.Mathlib.Omega.{arith}
 use lib.Dec.{ltb, eqb}
 use lib.ListN.{length}
-use lib.IntN.{ℤ, pos, _+ℤ_, _-ℤ_, natAbs}
+use lib.IntN.{ℤ, pos, _-ℤ_, natAbs}
 use Rattle.std.proofs.shelf.Signed.{ints}
 use Rattle.std.proofs.shelf.Tests.{and-parts, ltb-true, cases-eq}
 use Rattle.code.specs.Widths.{radius}
-use Rattle.code.specs.Folds.{fold, Same}
+use Rattle.code.specs.Folds.{fold}
 use Rattle.code.specs.Words.{word}
 use Rattle.code.specs.Distances.{sums, differences, times, squares, folded-squares, distance, cost, nearest}
 use Rattle.code.specs.Tries.{Best}
-use Rattle.code.proofs.FoldLaws.{radius-pos, fold-halves, fold-sum, fold-cong}
+use Rattle.code.proofs.FoldLaws.{radius-pos, fold-halves, fold-sum}
 use Rattle.code.proofs.Squares.{halves, triangle}
 use Rattle.code.proofs.WordLaws.{differ, binary, word-far, word-length, word-binary}
 use Rattle.code.proofs.Bests.{least-best, best-unique}

@@ -1,8 +1,7 @@
 -- The laws of folds, for every radius.
-use Prim.Native.Nat.{ℕ, zero, suc, _+_, _-_, _*_, _%_, _^_, _<_, _≤_}
-use mathlib.Core.Path.{_≡_, refl, sym, ap, subst, _∙_}
-use mathlib.Core.Bool.{true, false, cond}
-use mathlib.Core.Logic.{_⊎_, inl, inr}
+use Prim.Native.Nat.{ℕ, suc, _+_, _-_, _*_, _^_, _<_, _≤_}
+use mathlib.Core.Path.{_≡_, sym, ap, subst, _∙_}
+use mathlib.Core.Logic.{inl, inr}
 use native.Mathlib.Nat.{add-mul, suc-mul, mod-lt, one-mul, pow-suc}
 use native.Mathlib.Omega.{arith}
 use lib.Dec.{ltb}
@@ -14,7 +13,7 @@ use Rattle.std.proofs.shelf.Signed.{ints, by-ltZ}
 use Rattle.std.proofs.shelf.Tests.{cond-both, cond-true, cond-false, lt-ltb, le-ltb, ltb-true, ltb-false, cases-order}
 use Rattle.code.specs.Widths.{radius}
 use Rattle.code.specs.Folds.{rest, fold, Same, Folded}
-use Rattle.code.proofs.Multiples.{same-refl, same-sym, same-trans, same-add, same-less, same-rest, same-power}
+use Rattle.code.proofs.Multiples.{same-refl, same-sym, same-trans, same-add, same-less, same-rest}
 
 -- ---- the radius
 pub radius-pos : (w : ℕ) → 0 < radius w

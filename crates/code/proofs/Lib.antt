@@ -13,5 +13,3 @@ pub mod RowLaws
 pub mod Greatest
 pub mod Agreement
 pub mod Decoding
-pub mod Positions
-pub mod Noise

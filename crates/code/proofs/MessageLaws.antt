@@ -1,14 +1,14 @@
 -- The number of an octet as half of a byte, and the words of a message in a row.
-use Prim.Native.Nat.{ℕ, zero, suc, _+_, _*_, _/_, _%_, _^_, _<_, _≤_}
-use mathlib.Core.Path.{_≡_, refl, sym, ap, ap₂, subst, _∙_}
-use mathlib.Core.List.{List, [], _∷_}
-use mathlib.Core.Logic.{_⊎_, inl, inr}
+use Prim.Native.Nat.{ℕ, _+_, _*_, _/_, _%_, _^_, _<_, _≤_}
+use mathlib.Core.Path.{_≡_, ap, ap₂}
+use mathlib.Core.List.{List}
+use mathlib.Core.Logic.{inl, inr}
 use native.Mathlib.Nat.{div-div-eq-div-mul}
 use native.Mathlib.Omega.{arith}
 use lib.ListN.{getD, length}
 use Rattle.std.proofs.shelf.Lists.{getD-past}
 use Rattle.std.proofs.shelf.Tests.{cases-eq}
-use Rattle.code.specs.Messages.{message-bit, number, positions}
+use Rattle.code.specs.Messages.{message-bit, number}
 
 -- bit 4 i + t of a message is bit s of byte i / 2
 bit-at : (message : List ℕ) (n j s : ℕ) → n / 8 ≡ j → n % 8 ≡ s → message-bit message n ≡ getD message j 0 / 2 ^ s % 2

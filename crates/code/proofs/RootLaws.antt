@@ -1,13 +1,12 @@
 -- The root rounded up is the least whole number whose square is enough.
 use Prim.Native.Nat.{ℕ, zero, suc, _*_, _<_, _≤_}
 use mathlib.Core.Path.{_≡_}
-use mathlib.Core.Bool.{cond}
-use mathlib.Core.Logic.{_⊎_, inl, inr}
+use mathlib.Core.Logic.{inl, inr}
 use native.Mathlib.Nat.{mul-le-mul}
 use native.Mathlib.Omega.{arith}
 use lib.Dec.{leb}
-use Rattle.std.proofs.shelf.Tests.{cond-both, leb-true, leb-false, cases-eq, cases-order}
-use Rattle.code.specs.Roots.{reaching, root-up, LeastRoot}
+use Rattle.std.proofs.shelf.Tests.{cond-both, leb-true, leb-false, cases-order}
+use Rattle.code.specs.Roots.{root-up, LeastRoot}
 
 pub root-least : (s : ℕ) → LeastRoot s (root-up s)
 unfolding root-up

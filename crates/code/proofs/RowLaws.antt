@@ -1,13 +1,12 @@
 -- The octets of a row.
-use Prim.Native.Nat.{ℕ, zero, suc, _+_, _*_, _/_, _^_, _-_, min, max, _<_, _≤_}
-use mathlib.Core.Path.{_≡_, refl, sym, ap, subst, _∙_}
-use mathlib.Core.List.{List, [], _∷_, map}
-use mathlib.Core.Logic.{_⊎_, inl, inr}
+use Prim.Native.Nat.{ℕ, zero, suc, _+_, _*_, _^_, _-_, min, _<_, _≤_}
+use mathlib.Core.Path.{_≡_, refl, sym, ap, _∙_}
+use mathlib.Core.List.{List, [], _∷_}
+use mathlib.Core.Logic.{inl, inr}
 use native.Mathlib.Omega.{arith}
 use lib.IntN.{ℤ, pos}
 use lib.ListN.{length, getD}
-use Rattle.std.specs.Iters.{counting}
-use Rattle.std.proofs.shelf.Lists.{getD-past, getD-map, length-map}
+use Rattle.std.proofs.shelf.Lists.{getD-past}
 use Rattle.std.proofs.shelf.Tests.{cases-lt}
 use Rattle.std.proofs.shelf.Counted.{getD-map-counting}
 use Rattle.code.specs.Rows.{whole, octet}

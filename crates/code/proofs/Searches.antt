@@ -1,18 +1,18 @@
 -- What a try over the words 0 to 7 computes from the costs of pairs, and the loop of a distance.
-use Prim.Native.Nat.{ℕ, zero, suc, _+_, _*_, _<_, _≤_}
+use Prim.Native.Nat.{ℕ, zero, suc, _+_, _<_}
 use mathlib.Core.Path.{_≡_, refl, sym, ap, ap₂, subst, _∙_}
-use mathlib.Core.Bool.{Bool, true, false, cond, _&&_}
+use mathlib.Core.Bool.{true, cond}
 use mathlib.Core.List.{List, [], _∷_}
 use native.Mathlib.Omega.{arith}
 use lib.Dec.{ltb, eqb}
 use lib.ListN.{length, getD, take}
-use lib.IntN.{ℤ, pos, _-ℤ_}
+use lib.IntN.{ℤ, pos}
 use Rattle.std.proofs.shelf.Tests.{and-parts, ltb-true}
 use Rattle.code.specs.Widths.{radius}
 use Rattle.code.specs.Words.{word}
 use Rattle.code.specs.Distances.{distance, cost}
 use Rattle.code.proofs.WordLaws.{binary, word-length, word-binary, word-paired, paired}
-use Rattle.code.proofs.DistanceLaws.{gap, distance-gap, cost-picked}
+use Rattle.code.proofs.DistanceLaws.{gap, distance-gap}
 
 -- a list of eight, place by place
 abbrev pub spelt : {A : Type 0} → List A → A → List A

@@ -1,6 +1,6 @@
 -- An octet that is raised by the radius at its odd places, and lowered again, in 32 bits.
 use Prim.Native.Nat.{ℕ, zero, suc, _+_, _-_, _*_, _^_, _<_, _≤_}
-use mathlib.Core.Path.{_≡_, refl, sym, ap, subst, _∙_}
+use mathlib.Core.Path.{_≡_, refl, sym, ap, _∙_}
 use mathlib.Core.Bool.{Bool, true, false, _&&_}
 use mathlib.Core.List.{List, [], _∷_}
 use native.Mathlib.Omega.{arith}
@@ -13,11 +13,11 @@ use Rattle.std.specs.shelf.Signed.{wrapped}
 use Rattle.std.proofs.shelf.Signed.{ints, wrapped-fits, wrapped-add-left}
 use Rattle.std.proofs.shelf.Tests.{and-parts, ltb-true}
 use Rattle.code.specs.Widths.{radius}
-use Rattle.code.specs.Folds.{rest, fold, Same}
+use Rattle.code.specs.Folds.{rest, Same}
 use Rattle.code.specs.Words.{word}
 use Rattle.code.specs.Distances.{distance, cost}
 use Rattle.code.specs.Tries.{at-odd, raised, lowered}
-use Rattle.code.proofs.Multiples.{same-refl, same-sym, same-trans, same-add, same-sub, same-rest, same-power, same-less}
+use Rattle.code.proofs.Multiples.{same-refl, same-sym, same-trans, same-power}
 use Rattle.code.proofs.FoldLaws.{fold-same, radius-twice, rest-same, rest-below}
 use Rattle.code.proofs.WordLaws.{binary, turned, word-turned, word-binary}
 use Rattle.code.proofs.DistanceLaws.{gap, distance-gap, cost-zero, cost-one}

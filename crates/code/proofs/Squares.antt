@@ -1,11 +1,11 @@
 -- Sums of squares, and the length law without roots.
 use Prim.Native.Nat.{ℕ, zero, suc, _+_, _-_, _*_, _<_, _≤_}
-use mathlib.Core.Path.{_≡_, refl, sym, ap, subst, _∙_}
+use mathlib.Core.Path.{_≡_, refl, sym, subst}
 use mathlib.Core.List.{List, [], _∷_}
-use mathlib.Core.Logic.{_⊎_, inl, inr}
+use mathlib.Core.Logic.{inl, inr}
 use native.Mathlib.Nat.{mul-le-mul, mul-le-mul-left}
 use native.Mathlib.Omega.{arith}
-use lib.IntN.{ℤ, _+ℤ_, natAbs}
+use lib.IntN.{ℤ, natAbs}
 use Rattle.std.proofs.shelf.Tests.{cases-lt}
 use Rattle.code.specs.Distances.{squares, sums}
 use Rattle.code.proofs.FoldLaws.{natAbs-sum}

@@ -1,14 +1,14 @@
 -- The sixteen words: computed tests, and what follows from them for every number below 16.
-use Prim.Native.Nat.{ℕ, zero, suc, _+_, _-_, _*_, _/_, _<_, _≤_}
-use mathlib.Core.Path.{_≡_, refl, sym, ap, subst, _∙_}
-use mathlib.Core.Bool.{Bool, true, false, cond, not, _||_, _&&_}
+use Prim.Native.Nat.{ℕ, _+_, _-_, _/_, _<_, _≤_}
+use mathlib.Core.Path.{_≡_, refl}
+use mathlib.Core.Bool.{Bool, true, cond, _||_, _&&_}
 use mathlib.Core.List.{List, [], _∷_}
 use mathlib.Core.Logic.{_⊎_, inl, inr}
 use lib.Bits.{bitAnd, bitXor}
-use lib.Count.{ones, onesIn}
+use lib.Count.{ones}
 use lib.Dec.{leb, ltb, eqb}
 use lib.ListN.{length, getD}
-use Rattle.std.proofs.shelf.Tests.{or-cases, and-parts, eqb-true, leb-true, ltb-true}
+use Rattle.std.proofs.shelf.Tests.{or-cases, eqb-true, leb-true}
 use Rattle.code.specs.Words.{word, mask, binary-sum, TableRule}
 use Rattle.code.proofs.Computed.{all, at, at-both, equal, equal-true}
 

@@ -1,7 +1,7 @@
 -- Octets of a row of numbers, what a row decodes to, and how far it is from a message.
 use Prim.Native.Nat.{ℕ, zero, suc, _+_, _*_, _/_, _<_, max}
 use mathlib.Core.Path.{_≡_}
-use mathlib.Core.List.{List, [], _∷_, map}
+use mathlib.Core.List.{List, map}
 use lib.IntN.{ℤ, pos}
 use lib.ListN.{length, getD}
 use Rattle.std.specs.Iters.{counting}

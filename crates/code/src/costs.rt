@@ -1,8 +1,10 @@
 // What one place of an octet, or a pair of places, adds to the squared distance from a word, for each bit that the word may have there.
 ghost use mathlib.Core.Path.{_≡_};
 ghost use mathlib.Core.Bool.{cond};
-ghost use Prim.Native.Nat.{_+_, _*_, _≤_};
+ghost use Prim.Native.Nat.{_+_, _*_, _<_, _≤_};
 ghost use lib.Dec.{eqb};
+ghost use lib.IntN.{pos};
+ghost use lib.ListN.{getD};
 ghost use Rattle.code.specs.Widths.{radius};
 ghost use Rattle.code.specs.Distances.{cost};
 use crate::fold::fold;
@@ -29,21 +31,23 @@ pub fn place_costs(x: i32, width: Width) -> Costs
     ensures one { λ c. ⌜ c .one ≡ cost (radius (width .bits)) x 1 ⌝ }
     ensures small { λ c. ⌜ c .zero ≤ 1048576 ⌝ ∗ ⌜ c .one ≤ 1048576 ⌝ }
 {
+    let r = width.radius();
     let n = fold(x, width).unsigned_abs();
     Costs {
         zero: square(n),
-        one: square(width.radius() - n),
+        one: square(r - n),
     }
 }
 
-// Both places of the pair have the same bit.
-pub fn pair_costs(a: i32, b: i32, width: Width) -> Costs
-    ensures zero { λ c. ⌜ c .zero ≡ cost (radius (width .bits)) a 0 + cost (radius (width .bits)) b 0 ⌝ }
-    ensures one { λ c. ⌜ c .one ≡ cost (radius (width .bits)) a 1 + cost (radius (width .bits)) b 1 ⌝ }
+// The places first and first + 1 of an octet, where a word has the same bit at both.
+pub fn pair_costs(octet: [i32; 8], first: usize, width: Width) -> Costs
+    requires { ⌜ first < 7 ⌝ }
+    ensures zero { λ c. ⌜ c .zero ≡ cost (radius (width .bits)) (getD octet first (pos 0)) 0 + cost (radius (width .bits)) (getD octet (first + 1) (pos 0)) 0 ⌝ }
+    ensures one { λ c. ⌜ c .one ≡ cost (radius (width .bits)) (getD octet first (pos 0)) 1 + cost (radius (width .bits)) (getD octet (first + 1) (pos 0)) 1 ⌝ }
     ensures small { λ c. ⌜ c .zero ≤ 2097152 ⌝ ∗ ⌜ c .one ≤ 2097152 ⌝ }
 {
-    let x = place_costs(a, width);
-    let y = place_costs(b, width);
+    let x = place_costs(octet[first], width);
+    let y = place_costs(octet[first + 1], width);
     Costs {
         zero: x.zero + y.zero,
         one: x.one + y.one,

@@ -22,10 +22,10 @@ fn best_even(octet: [i32; 8], width: Width) -> Found
     ensures best { λ r. ⌜ Best (distance (width .bits) octet) 8 (r .number) (r .distance) ⌝ }
     ensures small { λ r. ⌜ r .distance ≤ 8388608 ⌝ }
 {
-    let a = pair_costs(octet[0], octet[1], width);
-    let b = pair_costs(octet[2], octet[3], width);
-    let c = pair_costs(octet[4], octet[5], width);
-    let d = pair_costs(octet[6], octet[7], width);
+    let a = pair_costs(octet, 0, width);
+    let b = pair_costs(octet, 2, width);
+    let c = pair_costs(octet, 4, width);
+    let d = pair_costs(octet, 6, width);
     let mut number = 0u8;
     let mut best = a.zero + b.zero + c.zero + d.zero;
     for k in 1..8u8 {

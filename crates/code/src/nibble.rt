@@ -1,6 +1,6 @@
 // The number of a word: four message bits, as a number below 16.
 ghost use mathlib.Core.Path.{_≡_};
-ghost use Prim.Native.Nat.{ℕ, _<_};
+ghost use Prim.Native.Nat.{_<_};
 ghost use Rattle.std.specs.Options.{mapped};
 ghost use Rattle.code.specs.Widths.{fourBits};
 

@@ -1,6 +1,6 @@
 // The width of a coefficient in bits, 8 to 11, and the radius that goes with it.
 ghost use mathlib.Core.Path.{_≡_};
-ghost use Prim.Native.Nat.{ℕ, _-_, _≤_};
+ghost use Prim.Native.Nat.{_-_, _≤_};
 ghost use Rattle.std.specs.Options.{mapped};
 ghost use Rattle.code.specs.Widths.{radius as radiusOf, offered};
 

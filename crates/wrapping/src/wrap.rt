@@ -21,7 +21,8 @@ fn embedded(s: u16, bit: u8, width: Width) -> u16
 {
     let modulus = 2 * width.radius();
     let rounded = (2 * (modulus * s as u32) + 3457) / 6914;
-    ((rounded + width.radius() * bit as u32) % modulus) as u16
+    let raised = rounded + width.radius() * bit as u32;
+    (raised % modulus) as u16
 }
 
 // Writes the coefficients that wrap a message, at the places that both rows have.

@@ -1,6 +1,6 @@
-use mathlib.Core.Path.{_≡_, _∙_, sym}
+use mathlib.Core.Path.{sym}
 use native.Mathlib.Omega.{arith}
-use Prim.Native.Nat.{_/_, _%_, _<_}
+use Prim.Native.Nat.{_/_, _<_}
 use lib.ListN.{getD}
 use borrow.Author.Needs.{needs}
 use Rattle.code.proofs.MessageLaws.{number-even, number-odd, number-past}
@@ -14,6 +14,6 @@ pub returns : need.returns
 returns c =
     let f : getD (c .args .message .now) (c .args .octet / 2) 0 < 256 = search needs in
     elim (c .if-octet-eq0 .came) [
-      | then-octet-eq0 w ↦ w .value-is ∙ sym (number-even (c .args .message .now) (c .args .octet) (w .if-octet-eq0 .taken))
-      | else-octet-eq0 w ↦ w .value-is ∙ omega (arith, number-odd (c .args .message .now) (c .args .octet) (omega (arith, w .if-octet-eq0 .left)))
+      | then-octet-eq0 w ↦ omega (arith, w .value-is, number-even (c .args .message .now) (c .args .octet) (w .if-octet-eq0 .taken))
+      | else-octet-eq0 w ↦ omega (arith, w .value-is, number-odd (c .args .message .now) (c .args .octet) (omega (arith, w .if-octet-eq0 .left)))
     ]

@@ -1,18 +1,13 @@
-use Prim.Native.Nat.{ℕ, _-_, _+_, _*_, _≤_, _<_}
-use mathlib.Core.Path.{_≡_, refl, _∙_, ap, sym}
+use Prim.Native.Nat.{ℕ, _+_}
+use mathlib.Core.Path.{_≡_, refl, _∙_, ap}
 use mathlib.Core.Bool.{cond}
 use mathlib.Core.List.{List}
 use native.Mathlib.Omega.{arith}
 use borrow.Author.Needs.{needs}
 use lib.Dec.{eqb}
-use lib.IntN.{ℤ, pos}
 use lib.ListN.{getD, length}
-use mir.Syntax.{w32}
-use mir.Val.{SFits}
-use Rattle.std.proofs.shelf.Signed.{toZ-ofZ}
 use Rattle.code.specs.Distances.{distance}
 use Rattle.code.specs.Words.{word}
-use Rattle.code.specs.Tries.{Best}
 use Rattle.code.proofs.Bests.{best-none, best-keeps, best-takes, best-same}
 use Rattle.code.proofs.Searches.{tally, tally-is}
 use Rattle.code.proofs.nearest.best_even.Needs as need
@@ -43,21 +38,13 @@ loop-k-again c =
 pub returns : need.returns
 returns c =
     let l : length (c .args .octet) ≡ 8 = search needs in
-    let f0 : SFits w32 (getD (c .args .octet) 0 (pos 0)) = search needs in
-    let f1 : SFits w32 (getD (c .args .octet) 1 (pos 0)) = search needs in
-    let f2 : SFits w32 (getD (c .args .octet) 2 (pos 0)) = search needs in
-    let f3 : SFits w32 (getD (c .args .octet) 3 (pos 0)) = search needs in
-    let f4 : SFits w32 (getD (c .args .octet) 4 (pos 0)) = search needs in
-    let f5 : SFits w32 (getD (c .args .octet) 5 (pos 0)) = search needs in
-    let f6 : SFits w32 (getD (c .args .octet) 6 (pos 0)) = search needs in
-    let f7 : SFits w32 (getD (c .args .octet) 7 (pos 0)) = search needs in
     record {
       best = best-same _ (distance (c .args .width .bits) (c .args .octet)) (c .loop-k .k) 8 _ _ (omega arith)
           (tally-is (c .args .width .bits) (c .args .octet) _ _ _ _ _ _ _ _ l
-          (simp toZ-ofZ at (c .pair-costs-a .ensures .zero), simp toZ-ofZ at (c .pair-costs-a .ensures .one))
-          (simp toZ-ofZ at (c .pair-costs-b .ensures .zero), simp toZ-ofZ at (c .pair-costs-b .ensures .one))
-          (simp toZ-ofZ at (c .pair-costs-c .ensures .zero), simp toZ-ofZ at (c .pair-costs-c .ensures .one))
-          (simp toZ-ofZ at (c .pair-costs-d .ensures .zero), simp toZ-ofZ at (c .pair-costs-d .ensures .one)))
+          (c .pair-costs-a .ensures .zero, c .pair-costs-a .ensures .one)
+          (c .pair-costs-b .ensures .zero, c .pair-costs-b .ensures .one)
+          (c .pair-costs-c .ensures .zero, c .pair-costs-c .ensures .one)
+          (c .pair-costs-d .ensures .zero, c .pair-costs-d .ensures .one))
           (c .loop-k .inv .0);
       small = c .loop-k .inv .1;
     }

@@ -1,16 +1,15 @@
-use Prim.Native.Nat.{ℕ, _-_, _+_, _*_, _≤_, _<_}
+use Prim.Native.Nat.{ℕ, _+_, _*_, _≤_, _<_}
 use mathlib.Core.Path.{_≡_, refl, _∙_, ap, sym}
 use mathlib.Core.List.{List}
 use native.Mathlib.Omega.{arith}
-use borrow.Author.Needs.{needs}
 use lib.ListN.{getD, length}
 use lib.IntN.{ℤ, pos}
 use mir.Syntax.{w32}
 use mir.Val.{SFits, toZ}
 use Rattle.std.proofs.shelf.Signed.{ints}
 use Rattle.code.specs.Widths.{radius}
-use Rattle.code.specs.Distances.{distance, nearest}
-use Rattle.code.specs.Tries.{Best, raised, lowered}
+use Rattle.code.specs.Distances.{distance}
+use Rattle.code.specs.Tries.{raised, lowered}
 use Rattle.code.proofs.Bests.{best-first, best-second}
 use Rattle.code.proofs.DistanceLaws.{sure, nearest-of}
 use Rattle.code.proofs.Shifts.{raised-distance, raised-lowered}
@@ -41,7 +40,7 @@ returns-then-odd-even c =
     let k : c .drop-guard .last .self .0 ≡ c .args .octet .now = again (c .args .octet .now) _ _ _ _ (c .drop-guard .ensures) (c .new-guard .ensures .by) (c .new-guard .ensures .held) (c .told-octet) (c .new-guard .ensures .fits) in
     record {
       number = nearest-of w (c .args .octet .now) _ _
-          (best-second _ _ _ _ _ _ (later w (c .args .octet .now) _ _ (omega arith) (omega arith) e (c .new-guard .ensures .held)) (c .best-even-even .ensures .best) (c .best-even-odd .ensures .best) (c .if-odd-even .taken));
+          (best-second _ _ _ _ _ _ (later w (c .args .octet .now) _ _ (omega arith) (omega arith) e (c .new-guard .ensures .held)) (c .best-even-even .ensures .best) (c .best-even-odd .ensures .best) (omega (arith, c .if-odd-even .taken)));
       kept = grind (arith, n, k);
     }
 
@@ -53,6 +52,6 @@ returns c =
     let k : c .drop-guard-2 .last .self .0 ≡ c .args .octet .now = again (c .args .octet .now) _ _ _ _ (c .drop-guard-2 .ensures) (c .new-guard .ensures .by) (c .new-guard .ensures .held) (c .told-octet) (c .new-guard .ensures .fits) in
     record {
       number = nearest-of w (c .args .octet .now) _ _
-          (best-first _ _ _ _ _ _ (later w (c .args .octet .now) _ _ (omega arith) (omega arith) e (c .new-guard .ensures .held)) (c .best-even-even .ensures .best) (c .best-even-odd .ensures .best) (c .if-odd-even .left));
+          (best-first _ _ _ _ _ _ (later w (c .args .octet .now) _ _ (omega arith) (omega arith) e (c .new-guard .ensures .held)) (c .best-even-even .ensures .best) (c .best-even-odd .ensures .best) (omega (arith, c .if-odd-even .left)));
       kept = grind (arith, n, k);
     }

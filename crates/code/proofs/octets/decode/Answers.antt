@@ -1,15 +1,15 @@
 use Prim.Native.Nat.{ℕ, _+_, _*_, _^_, _<_}
-use mathlib.Core.Path.{_≡_, _∙_, ap, sym}
+use mathlib.Core.Path.{ap}
 use mathlib.Core.Logic.{_≢_}
 use native.Mathlib.Omega.{arith}
 use borrow.Author.Needs.{needs}
 use borrow.Author.Count.{below-more}
-use lib.ListN.{getD, length}
+use lib.ListN.{length}
 use lib.IntN.{pos}
 use Rattle.std.proofs.shelf.Counted.{fill-by-all}
 use Rattle.std.proofs.shelf.Lists.{getD-set-same, getD-set-other, length-map}
 use Rattle.code.specs.Distances.{nearest}
-use Rattle.code.specs.Rows.{whole, octet, decoded-byte, decoded}
+use Rattle.code.specs.Rows.{whole, decoded-byte, decoded}
 use Rattle.code.proofs.RowLaws.{octet-saturated}
 use Rattle.code.proofs.octets.decode.Needs as need
 

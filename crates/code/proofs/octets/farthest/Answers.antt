@@ -1,13 +1,9 @@
-use Prim.Native.Nat.{ℕ, _+_, _/_, suc, max}
-use mathlib.Core.Path.{_≡_, refl, _∙_, ap, ap₂, sym}
-use mathlib.Core.List.{List}
+use mathlib.Core.Path.{refl, _∙_, ap, ap₂}
 use native.Mathlib.Omega.{arith}
-use lib.IntN.{ℤ, pos}
-use lib.ListN.{length}
+use lib.IntN.{pos}
 use Rattle.std.proofs.shelf.Lists.{length-map}
 use Rattle.code.specs.Distances.{distance}
-use Rattle.code.specs.Messages.{number}
-use Rattle.code.specs.Rows.{whole, octet, greatest, farthest}
+use Rattle.code.specs.Rows.{greatest, farthest}
 use Rattle.code.proofs.Greatest.{greatest-more}
 use Rattle.code.proofs.octets.farthest.Needs as need
 use Rattle.code.proofs.octets.farthest.Needs.{then-d-top, else-d-top}

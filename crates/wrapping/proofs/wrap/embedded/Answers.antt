@@ -17,8 +17,8 @@ mul-rounded-2 c = omega (arith, most (c .radius-modulus .result) (c .args .s) 65
 pub add-rounded : need.add-rounded
 add-rounded c = omega (arith, most (c .radius-modulus .result) (c .args .s) 65535 (omega arith) (omega arith))
 
-pub add-result : need.add-result
-add-result c =
+pub add-raised : need.add-raised
+add-raised c =
     omega (arith, most (c .radius-modulus .result) (c .args .s) 65535 (omega arith) (omega arith), most (c .radius .result) (c .args .bit) 255 (omega arith) (omega arith))
 
 -- the modulus is twice the radius
