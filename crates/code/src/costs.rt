@@ -26,7 +26,7 @@ fn square(n: u32) -> u32
 }
 
 // The magnitudes of the folds of x and of x - R add up to R.
-pub fn place_costs(x: i32, width: Width) -> Costs
+pub(crate) fn place_costs(x: i32, width: Width) -> Costs
     ensures zero { λ c. ⌜ c .zero ≡ cost (radius (width .bits)) x 0 ⌝ }
     ensures one { λ c. ⌜ c .one ≡ cost (radius (width .bits)) x 1 ⌝ }
     ensures small { λ c. ⌜ c .zero ≤ 1048576 ⌝ ∗ ⌜ c .one ≤ 1048576 ⌝ }
@@ -40,7 +40,7 @@ pub fn place_costs(x: i32, width: Width) -> Costs
 }
 
 // The places first and first + 1 of an octet, where a word has the same bit at both.
-pub fn pair_costs(octet: [i32; 8], first: usize, width: Width) -> Costs
+pub(crate) fn pair_costs(octet: [i32; 8], first: usize, width: Width) -> Costs
     requires { ⌜ first < 7 ⌝ }
     ensures zero { λ c. ⌜ c .zero ≡ cost (radius (width .bits)) (getD octet first (pos 0)) 0 + cost (radius (width .bits)) (getD octet (first + 1) (pos 0)) 0 ⌝ }
     ensures one { λ c. ⌜ c .one ≡ cost (radius (width .bits)) (getD octet first (pos 0)) 1 + cost (radius (width .bits)) (getD octet (first + 1) (pos 0)) 1 ⌝ }
@@ -55,7 +55,7 @@ pub fn pair_costs(octet: [i32; 8], first: usize, width: Width) -> Costs
 }
 
 // The cost of a bit of a word.
-pub fn pick(costs: Costs, bit: u8) -> u32
+pub(crate) fn pick(costs: Costs, bit: u8) -> u32
     requires { ⌜ costs .zero ≤ 2097152 ⌝ ∗ ⌜ costs .one ≤ 2097152 ⌝ }
     ensures value { λ r. ⌜ r ≡ cond (eqb bit 0) (costs .zero) (costs .one) ⌝ }
     ensures small { λ r. ⌜ r ≤ 2097152 ⌝ }

@@ -13,7 +13,7 @@ use Rattle.std.specs.declared.result.Result.{Result}
 use Rattle.std.specs.declared.result.Result.the-variants.{Ok, Err}
 use Rattle.ring.specs.declared.refusal.Refusal.{Refusal}
 use Rattle.ring.specs.declared.refusal.Refusal.the-variants.{Mismatch, Length, Width, Residue}
-use Rattle.packing.specs.Digits.{all-below}
+use Rattle.ring.specs.Engines.{all-below}
 use Rattle.packing.specs.Answers as packing
 use Rattle.custody.specs.Calls.{written}
 use Rattle.custody.specs.Checks.{buffered}

@@ -14,7 +14,8 @@ use Rattle.std.specs.declared.result.Result.{Result}
 use Rattle.std.specs.declared.result.Result.the-variants.{Ok}
 use Rattle.ring.specs.declared.refusal.Refusal.{Refusal}
 use Rattle.ring.specs.Engines.{all-below}
-use Rattle.packing.specs.Digits.{unpacked, all-below as all-low}
+use Rattle.ring.specs.Engines.{all-below as all-low}
+use Rattle.packing.specs.Digits.{unpacked}
 use Rattle.packing.specs.Answers.{lengths-answer, pack-row-answer, unpack-key-answer, written}
 use Rattle.packing.proofs.Below.{below-higher}
 use Rattle.packing.proofs.Trips.{unpacked-below}

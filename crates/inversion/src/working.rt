@@ -13,7 +13,7 @@ use ring::modular::Mod3457;
 use ring::rows;
 
 // Makes every place zero.
-pub fn clear<C: Coefficient>(row: &mut [C])
+pub(crate) fn clear<C: Coefficient>(row: &mut [C])
     ensures { λ _. ⌜ now (row .exit) ≡ zeros ring (length (now (row .entry))) ⌝ }
 {
     for place in row.iter_mut() {
@@ -22,7 +22,7 @@ pub fn clear<C: Coefficient>(row: &mut [C])
 }
 
 // Makes a row 1.
-pub fn set_one<C: Coefficient>(row: &mut [C])
+pub(crate) fn set_one<C: Coefficient>(row: &mut [C])
     requires { ⌜ 0 < length (now row) ⌝ }
     ensures { λ _. ⌜ now (row .exit) ≡ unit ring (length (now (row .entry))) ⌝ }
 {
@@ -31,7 +31,7 @@ pub fn set_one<C: Coefficient>(row: &mut [C])
 }
 
 // Makes a row x^n - x^(n/2) + 1, which has n + 1 places.
-pub fn set_modulus<C: Coefficient>(row: &mut [C], n: usize)
+pub(crate) fn set_modulus<C: Coefficient>(row: &mut [C], n: usize)
     requires { ⌜ (0 < n) × (length (now row) ≡ n + 1) ⌝ }
     ensures { λ _. ⌜ now (row .exit) ≡ modulus-row ring n ⌝ }
 {
@@ -42,7 +42,7 @@ pub fn set_modulus<C: Coefficient>(row: &mut [C], n: usize)
 }
 
 // Makes a row f with one zero after it.
-pub fn set_padded<C: Coefficient>(row: &mut [C], f: &[C])
+pub(crate) fn set_padded<C: Coefficient>(row: &mut [C], f: &[C])
     requires { ⌜ length (now row) ≡ length (now f) + 1 ⌝ }
     ensures { λ _. ⌜ now (row .exit) ≡ now (f .entry) ++ zeros ring 1 ⌝ }
 {
@@ -51,7 +51,7 @@ pub fn set_padded<C: Coefficient>(row: &mut [C], f: &[C])
 }
 
 // Exchanges what two rows hold.
-pub fn exchange<C: Coefficient>(a: &mut [C], b: &mut [C])
+pub(crate) fn exchange<C: Coefficient>(a: &mut [C], b: &mut [C])
     requires { ⌜ length (now a) ≡ length (now b) ⌝ }
     ensures first { λ _. ⌜ now (a .exit) ≡ now (b .entry) ⌝ }
     ensures second { λ _. ⌜ now (b .exit) ≡ now (a .entry) ⌝ }
@@ -64,7 +64,7 @@ pub fn exchange<C: Coefficient>(a: &mut [C], b: &mut [C])
 }
 
 // The inverse of the coefficient at a place, or none where that is zero.
-pub fn inverse_at(row: &[Mod3457], place: usize) -> Option<Mod3457>
+pub(crate) fn inverse_at(row: &[Mod3457], place: usize) -> Option<Mod3457>
     requires { ⌜ place < length (now row) ⌝ }
     ensures { λ r. ⌜ BySome r (at field (now (row .entry)) place ≡ field .zero) (λ y. field .mul (at field (now (row .entry)) place) y ≡ field .one) ⌝ }
 {

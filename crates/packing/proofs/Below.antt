@@ -8,7 +8,7 @@ use lib.Dec.{ltb}
 use lib.ListN.{length, getD, drop}
 use Rattle.std.proofs.shelf.Lists.{drop-more}
 use Rattle.std.proofs.shelf.Tests.{lt-ltb, le-ltb, ltb-true, and-parts, and-from}
-use Rattle.packing.specs.Digits.{all-below}
+use Rattle.ring.specs.Engines.{all-below}
 
 pub below-stops : (m : ℕ) (xs : List ℕ) (i : ℕ) → i < length xs → m ≤ getD xs i 0 → all-below m (drop i xs) ≡ false
 below-stops m xs i within high = ap (all-below m) (drop-more xs i 0 within) ∙ ap (λ t. t && all-below m (drop (i + 1) xs)) (le-ltb _ _ high)

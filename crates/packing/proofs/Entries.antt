@@ -10,7 +10,8 @@ use Rattle.std.specs.declared.result.Result.the-variants.{Ok, Err}
 use Rattle.ring.specs.declared.refusal.Refusal.{Refusal}
 use Rattle.ring.specs.declared.refusal.Refusal.the-variants.{Residue}
 use Rattle.packing.specs.Answers.{entry-answer}
-use Rattle.packing.specs.Digits.{digits, all-below}
+use Rattle.ring.specs.Engines.{all-below}
+use Rattle.packing.specs.Digits.{digits}
 
 module _ (m b n i rest rest′ x : ℕ) (within : i < n) (x-is : x ≡ rest % b) (rest-is : rest′ ≡ rest / b) where
   entry : all-below m (digits b (n - i) rest) ≡ (ltb x m && all-below m (digits b (n - (i + 1)) rest′))

@@ -10,7 +10,8 @@ use lib.ListN.{length}
 use Rattle.std.proofs.shelf.Tests.{eq-eqb, and-from, cond-true}
 use Rattle.std.proofs.shelf.Ways.{tells}
 use Rattle.std.specs.declared.result.Result.the-variants.{Ok}
-use Rattle.packing.specs.Digits.{packed, unpacked, all-below}
+use Rattle.ring.specs.Engines.{all-below}
+use Rattle.packing.specs.Digits.{packed, unpacked}
 use Rattle.packing.specs.Answers.{key-degree, key-answer, pack-row-answer, pack-key-answer, unpack-key-answer}
 use Rattle.packing.specs.Laws.{KeysReturn}
 use Rattle.packing.proofs.Below.{below-higher}

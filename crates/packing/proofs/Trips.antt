@@ -7,7 +7,8 @@ use native.Mathlib.Nat.{pow-zero, pow-succ'}
 use native.Mathlib.Omega.{arith}
 use lib.ListN.{length}
 use Rattle.std.proofs.shelf.Bits.{pow-pos, pow-add}
-use Rattle.packing.specs.Digits.{value, digits, packed, unpacked, all-below}
+use Rattle.ring.specs.Engines.{all-below}
+use Rattle.packing.specs.Digits.{value, digits, packed, unpacked}
 use Rattle.packing.specs.Laws.{RoundTrips}
 use Rattle.packing.proofs.Positional.{length-digits, digits-below, value-lt, digits-value, value-digits}
 

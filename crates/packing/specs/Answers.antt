@@ -8,7 +8,8 @@ use Rattle.std.specs.declared.result.Result.{Result}
 use Rattle.std.specs.declared.result.Result.the-variants.{Ok, Err}
 use Rattle.ring.specs.declared.refusal.Refusal.{Refusal}
 use Rattle.ring.specs.declared.refusal.Refusal.the-variants.{Mismatch, Length, Width, Residue}
-use Rattle.packing.specs.Digits.{all-below, unpacked}
+use Rattle.ring.specs.Engines.{all-below}
+use Rattle.packing.specs.Digits.{unpacked}
 
 -- the widths that are packed
 abbrev pub narrow : ℕ → Bool

@@ -1,8 +1,6 @@
 -- Numbers as lists of digits, and rows of numbers packed into bytes.
 use mathlib.Core.List.{List, [], _∷_}
-use mathlib.Core.Bool.{Bool, true, _&&_}
 use Prim.Native.Nat.{ℕ, zero, suc, _+_, _*_, _/_, _%_, _^_}
-use lib.Dec.{ltb}
 use lib.ListN.{length}
 
 -- the number that a list of digits in base b stands for, lowest digit first
@@ -14,11 +12,6 @@ value b (x ∷ xs) = x + b * value b xs
 unfoldable pub digits : ℕ → ℕ → ℕ → List ℕ
 digits b zero v = []
 digits b (suc count) v = v % b ∷ digits b count (v / b)
-
--- whether each number of a row is below m
-abbrev pub all-below : ℕ → List ℕ → Bool
-all-below m [] = true
-all-below m (x ∷ xs) = ltb x m && all-below m xs
 
 -- a row of numbers of w bits each as bytes, low bits first
 unfoldable pub packed : ℕ → List ℕ → List ℕ

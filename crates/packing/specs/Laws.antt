@@ -5,7 +5,8 @@ use mathlib.Core.List.{List}
 use Prim.Native.Nat.{ℕ, _*_, _/_, _%_, _^_}
 use lib.ListN.{length}
 use Rattle.std.specs.declared.result.Result.the-variants.{Ok}
-use Rattle.packing.specs.Digits.{packed, unpacked, all-below}
+use Rattle.ring.specs.Engines.{all-below}
+use Rattle.packing.specs.Digits.{packed, unpacked}
 use Rattle.packing.specs.Answers.{pack-key-answer, unpack-key-answer}
 
 -- numbers that fit in w bits and fill whole bytes come back, and so do bytes that whole numbers fill

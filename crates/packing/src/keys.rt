@@ -4,11 +4,13 @@ ghost use mathlib.Core.Bool.{true};
 ghost use Prim.Native.Nat.{_*_};
 ghost use lib.ListN.{length};
 ghost use Rattle.std.specs.declared.result.Result.the-variants.{Ok};
-ghost use Rattle.packing.specs.Digits.{packed, unpacked, all-below};
+ghost use Rattle.ring.specs.Engines.{all-below};
+ghost use Rattle.packing.specs.Digits.{packed, unpacked};
 ghost use Rattle.packing.specs.Answers.{shape-answer, entry-answer, entries-answer, pack-key-answer, unpack-key-answer, written};
 ghost use Rattle.packing.specs.Laws.{KeysReturn};
 use crate::bits::BitReader;
 use crate::rows;
+use ring::engine::below;
 use ring::refusal::Refusal;
 
 // The bits of one entry of a key.
@@ -69,7 +71,7 @@ fn check_residue(entry: u16) -> Result<(), Refusal>
 fn check_residues(row: &[u16]) -> Result<(), Refusal>
     ensures { λ r. ⌜ r ≡ entries-answer (now (row .entry)) ⌝ }
 {
-    if !rows::below(MODULUS, row) {
+    if !below(MODULUS, row) {
         return Err(Refusal::Residue);
     }
     Ok(())

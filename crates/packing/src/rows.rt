@@ -4,30 +4,20 @@ ghost use mathlib.Core.Bool.{true};
 ghost use Prim.Native.Nat.{_*_, _^_, _≤_};
 ghost use lib.ListN.{length};
 ghost use Rattle.std.specs.declared.result.Result.the-variants.{Ok};
-ghost use Rattle.packing.specs.Digits.{packed, unpacked, all-below};
+ghost use Rattle.ring.specs.Engines.{all-below};
+ghost use Rattle.packing.specs.Digits.{packed, unpacked};
 ghost use Rattle.packing.specs.Answers.{lengths-answer, pack-row-answer, written};
 ghost use Rattle.packing.specs.Laws.{RoundTrips};
 use crate::bits::BitReader;
 use crate::bits::reading::check_width;
 use crate::pending::above;
+use ring::engine::below;
 use ring::refusal::Refusal;
 
 // Packing and unpacking undo each other, at every width.
 pub fn round_trips()
     ensures { λ _. ⌜ RoundTrips ⌝ }
 {}
-
-// Whether each number of a row is below a limit.
-pub(crate) fn below(limit: u16, row: &[u16]) -> bool
-    ensures { λ r. ⌜ r ≡ all-below limit (now (row .entry)) ⌝ }
-{
-    for x in row {
-        if *x >= limit {
-            return false;
-        }
-    }
-    true
-}
 
 // Packs a row into exactly as many bytes as it has bits for.
 pub fn pack_row(width: u32, row: &[u16], out: &mut [u8]) -> Result<(), Refusal>

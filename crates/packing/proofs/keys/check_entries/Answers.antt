@@ -6,7 +6,8 @@ use Rattle.std.proofs.shelf.Results.{err-from-errBy}
 use Rattle.std.specs.declared.result.Result.{Result}
 use Rattle.std.specs.declared.result.Result.the-variants.{Err}
 use Rattle.ring.specs.declared.refusal.Refusal.{Refusal}
-use Rattle.packing.specs.Digits.{digits, unpacked, all-below}
+use Rattle.ring.specs.Engines.{all-below}
+use Rattle.packing.specs.Digits.{digits, unpacked}
 use Rattle.packing.specs.Reading.{unread}
 use Rattle.packing.proofs.Entries.{entry-stops, entry-goes, entry-refused, entry-obeyed}
 use Rattle.packing.proofs.Takes.{taken-is}

@@ -1,6 +1,7 @@
 use mathlib.Core.Path.{_≡_}
 use Prim.Native.Nat.{_-_, _*_}
-use Rattle.packing.specs.Digits.{digits, unpacked, all-below}
+use Rattle.ring.specs.Engines.{all-below}
+use Rattle.packing.specs.Digits.{digits, unpacked}
 use Rattle.packing.specs.Reading.{unread, left}
 use Rattle.packing.proofs.keys.check_entries.Given as given
 
