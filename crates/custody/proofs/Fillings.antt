@@ -17,7 +17,7 @@ use Rattle.wrapping.specs.Wraps.{sigma, wrap, measured}
 use Rattle.wrapping.specs.Joins.{xored}
 use Rattle.wrapping.specs.Trims.{halved}
 use Rattle.wrapping.proofs.Coefficients.{length-joined}
-use Rattle.wrapping.proofs.Embeddings.{length-wrap}
+use Rattle.wrapping.proofs.Coefficients.{length-embedded-row}
 use Rattle.wrapping.proofs.WrapLaws.{allowance-covers}
 use Rattle.wrapping.proofs.JoinLaws.{join-near}
 use Rattle.wrapping.proofs.TrimLaws.{trim-near}
@@ -52,7 +52,7 @@ module _ (key : Key) (told : Told) (ledger : Ledger) where
         sound = record {
           low = omega (arith, args .low);
           high = args .high;
-          long = length-wrap (key .degree) w (sigma (key .degree) (h-of key) r) message;
+          long = length-embedded-row (key .degree) w (sigma (key .degree) (h-of key) r) message;
           bits-long = args .message-long;
           below = below;
           near = allowance-covers (key .degree) w (f-of key) (wrap (key .degree) w (h-of key) r message) message;

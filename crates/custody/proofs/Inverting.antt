@@ -24,7 +24,7 @@ use Rattle.inversion.specs.Leading.{F, field}
 use Rattle.inversion.specs.Inverse.{refused, Inverse, NoInverseOf}
 use Rattle.wrapping.specs.Buffers.{over}
 use Rattle.wrapping.specs.Secrets.{secret, reduced-row}
-use Rattle.wrapping.proofs.Coefficients.{length-secret}
+use Rattle.wrapping.proofs.SecretLaws.{length-secret}
 use Rattle.wrapping.proofs.Filling.{over-whole}
 use Rattle.custody.specs.Keying.{Inverts, Uninvertible}
 use Rattle.custody.proofs.Fronts.{reduced-all-below}

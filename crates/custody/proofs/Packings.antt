@@ -14,16 +14,10 @@ use Rattle.std.specs.declared.result.Result.{Result}
 use Rattle.std.specs.declared.result.Result.the-variants.{Ok}
 use Rattle.ring.specs.declared.refusal.Refusal.{Refusal}
 use Rattle.ring.specs.Engines.{all-below}
-use Rattle.ring.specs.Engines.{all-below as all-low}
 use Rattle.packing.specs.Digits.{unpacked}
 use Rattle.packing.specs.Answers.{lengths-answer, pack-row-answer, unpack-key-answer, written}
 use Rattle.packing.proofs.Below.{below-higher}
 use Rattle.packing.proofs.Trips.{unpacked-below}
-
--- the two crates mean the same by 'each number is below m'
-pub low-below : (m : ℕ) (xs : List ℕ) → all-low m xs ≡ all-below m xs
-low-below m [] = refl
-low-below m (x ∷ xs) = ap (λ t. ltb x m && t) (low-below m xs)
 
 -- sixteens of w bits fill whole bytes
 pub whole-bytes : (n w : ℕ) → n % 16 ≡ 0 → n * w / 8 * 8 ≡ n * w
@@ -34,7 +28,7 @@ whole-bytes n w sixteens =
 -- a number of at most 11 bits is below 2048
 pub unpacked-low : (w n : ℕ) (bytes row : List ℕ) → w ≤ 11 → row ≡ unpacked w n bytes → all-below 2048 row ≡ true
 unpacked-low w n bytes row h e =
-    ap (all-below 2048) e ∙ sym (low-below 2048 (unpacked w n bytes))
+    ap (all-below 2048) e
     ∙ below-higher (2 ^ w) 2048 (unpacked w n bytes) (pow-mono {i = w} {j = 11} h) (unpacked-below w n bytes)
 
 -- what was unpacked into the first n places, which the code cuts at n - 0
@@ -66,7 +60,7 @@ module _ (n : ℕ) (row new rest : List ℕ) (small : n ≤ 1024) (long : length
 
 -- a row of n numbers of w bits is packed
 pub row-packs : (w : ℕ) (row : List ℕ) (bytes : ℕ) → 8 ≤ w → w ≤ 11 → bytes * 8 ≡ length row * w → all-below (2 ^ w) row ≡ true → pack-row-answer w row bytes ≡ Ok tt
-row-packs w row bytes low high l t = let s = low-below (2 ^ w) row ∙ t in grind (arith, tells)
+row-packs w row bytes low high l t = grind (arith, tells)
 
 -- bytes that are as many as sixteens of w bits need
 pub bytes-fill : (n read w bytes : ℕ) → n % 16 ≡ 0 → read ≡ w → bytes ≡ n * read / 8 → bytes * 8 ≡ n * w

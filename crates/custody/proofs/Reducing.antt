@@ -20,7 +20,7 @@ use Rattle.wrapping.specs.Buffers.{over}
 use Rattle.wrapping.specs.Secrets.{secret, reduced-row}
 use Rattle.wrapping.specs.Wraps.{sigma, measured}
 use Rattle.wrapping.proofs.Filling.{over-whole}
-use Rattle.wrapping.proofs.Coefficients.{length-secret}
+use Rattle.wrapping.proofs.SecretLaws.{length-secret}
 use Rattle.wrapping.proofs.Reductions.{alike-reduced, reduced-below}
 use Rattle.custody.proofs.Fronts.{take-over, take-reduced, reduced-all-below}
 

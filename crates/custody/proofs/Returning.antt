@@ -14,14 +14,14 @@ use Rattle.wrapping.specs.Wraps.{sigma, wrap, measured}
 use Rattle.wrapping.proofs.Coefficients.{length-embedded-row}
 use Rattle.wrapping.proofs.WrapLaws.{wrap-opens}
 use Rattle.custody.specs.Sealing.{unsealed, ComesBack}
-use Rattle.custody.proofs.Packings.{low-below, whole-bytes}
+use Rattle.custody.proofs.Packings.{whole-bytes}
 use Rattle.custody.proofs.Wrappings.{embedded-below}
 
 -- a row of n sixteens comes back from its bytes
 back : (n w : ℕ) (row : List ℕ) → n % 16 ≡ 0 → length row ≡ n → all-below (2 ^ w) row ≡ true → unpacked w n (packed w row) ≡ row
 back n w row sixteens l t =
     ap (λ k. unpacked w k (packed w row)) (sym l)
-    ∙ row-back w row (low-below (2 ^ w) row ∙ t) (ap (λ k. k * w % 8) l ∙ omega (arith, whole-bytes n w sixteens))
+    ∙ row-back w row t (ap (λ k. k * w % 8) l ∙ omega (arith, whole-bytes n w sixteens))
 
 pub comes-back : ComesBack
 comes-back n w f g h r e message low high tied lr lm bytes exact quiet =
@@ -36,7 +36,7 @@ comes-back n w f g h r e message low high tied lr lm bytes exact quiet =
     h-back : unpacked 12 n (packed 12 h) ≡ h
     h-back =
         back n 12 h (tied .sixteens) (tied .h-long)
-        (sym (low-below 4096 h) ∙ below-higher 3457 4096 h (omega arith) (low-below 3457 h ∙ tied .h-below))
+        (below-higher 3457 4096 h (omega arith) (tied .h-below))
 
     c-back : unpacked w n (packed w c) ≡ c
     c-back = back n w c (tied .sixteens) (length-embedded-row n w (sigma n h r) message) (embedded-below n w (sigma n h r) message)

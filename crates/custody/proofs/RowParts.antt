@@ -6,41 +6,23 @@ use Prim.Native.Nat.{ℕ, zero, suc, _+_, _-_, _*_, _%_, _^_, _<_, _≤_}
 use native.Mathlib.Nat.{mod-lt}
 use native.Mathlib.Omega.{arith}
 use lib.Dec.{ltb}
-use lib.ListN.{length, getD, take, replicate, length-take, length-replicate, length-map}
-use lib.Seq.{getD-take}
+use lib.ListN.{length, getD, take, replicate, length-replicate, length-map}
 use lib.Pow.{pow-pos, pow-mono}
-use Rattle.std.proofs.shelf.Tests.{and-parts, lt-ltb, ltb-true}
-use Rattle.std.proofs.shelf.Lists.{ext-getD}
-use Rattle.std.specs.Iters.{counting}
+use Rattle.std.proofs.shelf.Tests.{and-parts, and-from, lt-ltb}
 use Rattle.ring.specs.Engines.{all-below}
+use Rattle.packing.proofs.Below.{below-higher}
 use Rattle.custody.specs.declared.filled.Filled.{Filled}
+use Rattle.custody.proofs.Fronts.{take-all-below}
+use Rattle.custody.proofs.Wrappings.{embedded-below, take-embedded}
 use Rattle.wrapping.specs.Buffers.{over}
 use Rattle.wrapping.proofs.Filling.{over-whole}
 use Rattle.wrapping.specs.Joins.{joined}
 use Rattle.wrapping.specs.Trims.{halved, halving}
-use Rattle.wrapping.specs.Wraps.{embedded, embedded-row, position}
-use Rattle.wrapping.proofs.Coefficients.{length-embedded-row, getD-embedded-row}
-
--- both of two tests
-and-both : (a b : Bool) → a ≡ true → b ≡ true → (a && b) ≡ true
-and-both a b p q = ap₂ _&&_ p q
+use Rattle.wrapping.specs.Wraps.{embedded-row}
+use Rattle.wrapping.proofs.Coefficients.{length-embedded-row}
 
 pub below-cons : (m x : ℕ) (xs : List ℕ) → x < m → all-below m xs ≡ true → all-below m (x ∷ xs) ≡ true
-below-cons m x xs h t = and-both (ltb x m) (all-below m xs) (lt-ltb x m h) t
-
-pub below-take : (m n : ℕ) (xs : List ℕ) → all-below m xs ≡ true → all-below m (take n xs) ≡ true
-below-take m zero xs t = refl
-below-take m (suc n) [] t = refl
-below-take m (suc n) (x ∷ xs) t =
-    let p = and-parts (ltb x m) (all-below m xs) t in
-    and-both (ltb x m) (all-below m (take n xs)) (p .0) (below-take m n xs (p .1))
-
-pub below-weaken : (m k : ℕ) (xs : List ℕ) → m ≤ k → all-below m xs ≡ true → all-below k xs ≡ true
-below-weaken m k [] h t = refl
-below-weaken m k (x ∷ xs) h t =
-    let p = and-parts (ltb x m) (all-below m xs) t in
-    let l : x < m = ltb-true x m (p .0) in
-    below-cons k x xs (omega arith) (below-weaken m k xs h (p .1))
+below-cons m x xs h t = and-from (ltb x m) (all-below m xs) (lt-ltb x m h) t
 
 pub joined-below : (w : ℕ) (a b : List ℕ) → all-below (2 ^ w) a ≡ true → all-below (2 ^ w) (joined w a b) ≡ true
 unfolding joined
@@ -60,25 +42,6 @@ take-joined w (suc n) (x ∷ a) (y ∷ b) = ap {B = List ℕ} (λ r. (x + y) % 2
 pub map-below : {X : Type 0} (m : ℕ) (f : X → ℕ) → ((x : X) → f x < m) → (xs : List X) → all-below m (map f xs) ≡ true
 map-below m f h [] = refl
 map-below m f h (x ∷ xs) = below-cons m (f x) (map f xs) (h x) (map-below m f h xs)
-
-pub embedded-below : (n w : ℕ) (row message : List ℕ) → all-below (2 ^ w) (embedded-row n w row message) ≡ true
-unfolding embedded-row embedded
-embedded-below n w row message = map-below (2 ^ w) _ (λ i. mod-lt _ (pow-pos w)) (counting 0 n)
-
-pub take-embedded : (n k w : ℕ) (row message : List ℕ) → n ≤ k → take n (embedded-row k w row message) ≡ embedded-row n w (take n row) message
-take-embedded n k w row message h =
-    let l = length-embedded-row k w row message in
-    let l2 = length-take n (embedded-row k w row message) in
-    let l3 = length-embedded-row n w (take n row) message in
-    ext-getD 0 (take n (embedded-row k w row message)) (embedded-row n w (take n row) message)
-    (omega (arith, l, l2, l3))
-    (λ i g.
-    let i-low : i < n = omega (arith, l2) in
-    let i-in : i < k = omega arith in
-    getD-take n (embedded-row k w row message) i 0 i-low
-    ∙ getD-embedded-row k w row message i 0 i-in
-    ∙ ap (λ x. embedded w x (position message i)) (sym (getD-take n row i 0 i-low))
-    ∙ sym (getD-embedded-row n w (take n row) message i 0 i-low))
 
 pub halvings-below : (xs : List ℕ) → all-below 2 (map halving xs) ≡ true
 halvings-below xs = map-below 2 halving (λ x. mod-lt x (omega arith)) xs
@@ -110,7 +73,7 @@ halvings-is row out l e = e ∙ over-whole _ _ (length-map row halving ∙ l ∙
 pub filled-below : (n : ℕ) (a : Filled) → all-below 2048 (take n (a .coefficients)) ≡ true
 filled-below n a =
     let high : a .width .bits ≤ 11 = a .width .ok .1 in
-    below-take 2048 n (a .coefficients) (below-weaken (2 ^ a .width .bits) 2048 (a .coefficients) (pow-mono high) (a .small))
+    take-all-below 2048 n (a .coefficients) (below-higher (2 ^ a .width .bits) 2048 (a .coefficients) (pow-mono high) (a .small))
 
 pub take-exact : {X : Type 0} (a b : List X) (k : ℕ) → length a ≡ k → take k (a ++ b) ≡ a
 take-exact {X} [] b zero e = refl

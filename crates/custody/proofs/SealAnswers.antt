@@ -18,7 +18,6 @@ use Rattle.packing.specs.Answers.{unpack-key-answer}
 use Rattle.wrapping.specs.Secrets.{all-small}
 use Rattle.wrapping.specs.Wraps.{wrap, measured}
 use Rattle.custody.specs.Sealing.{suited, seal-answer, sealed, unseal-answer, unsealed, written}
-use Rattle.custody.proofs.Packings.{low-below}
 
 -- what an engine and a width that suit have
 pub record Suits (lowest wanted n m w bits : ℕ) : Type 0 where
@@ -53,7 +52,6 @@ module _ (d k n m w bits size : ℕ) (key : List ℕ) (r : List ℤ) (message : 
 
   key-goes : unpack-key-answer n key n ≡ cond (all-below 3457 (unpacked 12 n key)) (Ok tt) (Err Residue)
   key-goes =
-      let b = low-below 3457 (unpacked 12 n key) in
       let whole = subst (λ (i : ℕ). Degree i) (sym degree) sizes in
       grind (arith, tells)
 

@@ -9,10 +9,10 @@ use lib.IntN.{ℤ, natAbs}
 use lib.ListN.{length, take}
 use Rattle.std.proofs.shelf.Lists.{length-take-le}
 use Rattle.std.proofs.shelf.Tests.{and-parts, and-from, ltb-true}
-use Rattle.ring.specs.Engines.{all-below}
 use Rattle.wrapping.specs.Secrets.{all-small, Tied}
 use Rattle.custody.specs.declared.key.Key.{Key}
 use Rattle.custody.specs.Keys.{f-of, g-of, h-of}
+use Rattle.custody.proofs.Fronts.{take-all-below}
 use Rattle.custody.specs.Told.{Told, paired, ready}
 
 -- ---- the front of a row
@@ -22,13 +22,6 @@ small-take (suc n) [] t = refl
 small-take (suc n) (z ∷ zs) t =
     let p = and-parts (leb (natAbs z) 6) (all-small zs) t in
     and-from (leb (natAbs z) 6) (all-small (take n zs)) (p .0) (small-take n zs (p .1))
-
-pub below-take : (m n : ℕ) (xs : List ℕ) → all-below m xs ≡ true → all-below m (take n xs) ≡ true
-below-take m zero xs t = refl
-below-take m (suc n) [] t = refl
-below-take m (suc n) (x ∷ xs) t =
-    let p = and-parts (ltb x m) (all-below m xs) t in
-    and-from (ltb x m) (all-below m (take n xs)) (p .0) (below-take m n xs (p .1))
 
 -- ---- the rows of a key
 module _ (key : Key) where
@@ -53,7 +46,7 @@ module _ (key : Key) where
     h-long = h-long;
     f-small = small-take (key .degree) (key .f) (key .«f_small»);
     g-small = small-take (key .degree) (key .g) (key .«g_small»);
-    h-below = below-take 3457 (key .degree) (key .h) (key .«h_below»);
+    h-below = take-all-below 3457 (key .degree) (key .h) (key .«h_below»);
     tie = key .tied;
   }
 

@@ -11,11 +11,6 @@ use Rattle.wrapping.specs.Secrets.{secret, secret-at}
 use Rattle.wrapping.specs.Joins.{joined}
 use Rattle.wrapping.specs.Wraps.{embedded, embedded-row, position}
 
-pub length-secret : (f : List ℤ) → length (secret f) ≡ length f
-unfolding secret
-length-secret [] = refl
-length-secret (z ∷ zs) = ap suc (length-map zs _)
-
 pub getD-secret : (f : List ℤ) (i : ℕ) (d e : ℤ) → i < length f → getD (secret f) i e ≡ secret-at i (getD f i d)
 unfolding secret
 getD-secret [] i d e h = absurd (omega arith)

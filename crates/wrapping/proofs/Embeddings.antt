@@ -24,6 +24,7 @@ use Rattle.wrapping.proofs.Alikes.{same-by, alike-refl, alike-trans, alike-plu
 use Rattle.wrapping.proofs.Reductions.{length-whole, same-remainder}
 use Rattle.wrapping.proofs.ExactErrors.{rounded-row, length-rounded}
 use Rattle.wrapping.proofs.Offsets.{words, length-words, words-at, offset, offset-is, offset-alike}
+use Rattle.wrapping.proofs.Coefficients.{length-embedded-row}
 use Rattle.wrapping.proofs.SecretLaws.{length-secret, radius-secret}
 
 -- what is added and taken away again
@@ -78,10 +79,6 @@ offset-embedded n w f′ c u message hw some lf lu a =
         (sym (plus-product integers n some u (times integers R s) f lu (lm s ls) lg ∙ ap (plus integers (u · f)) (times-product integers n some R s f ls lg)))
         (alike-plus (2 ^ w) (u · f) (u · f) (times integers R (s · f)) (times integers R s) (lp u ∙ sym (lm (s · f) (lp s))) (alike-refl (2 ^ w) (u · f)) (radius-secret n w f′ s hw some lf ls)))
 
-pub length-wrap : (n w : ℕ) (row message : List ℕ) → length (embedded-row n w row message) ≡ n
-unfolding embedded-row
-length-wrap n w row message = length-map-counting (λ i. embedded w (getD row i 0) (position message i)) 0 n
-
 -- the coefficients are the rounded row with the words put on its top
 pub wrap-agrees : (n w : ℕ) (row message : List ℕ) → length row ≡ n → Alike (2 ^ w) (whole (embedded-row n w row message)) (plus integers (rounded-row w row) (times integers (pos (radius w)) (words message n)))
 unfolding embedded-row embedded
@@ -100,7 +97,7 @@ wrap-agrees n w row message l = record {
     t = times integers (pos (radius w)) (words message n)
 
     lc : length (whole c) ≡ n
-    lc = length-whole c ∙ length-wrap n w row message
+    lc = length-whole c ∙ length-embedded-row n w row message
 
     lu : length u ≡ n
     lu = length-rounded w row ∙ l

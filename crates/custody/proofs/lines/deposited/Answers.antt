@@ -9,7 +9,9 @@ use Rattle.code.specs.Rows.{farthest}
 use Rattle.wrapping.specs.Wraps.{embedded-row, measured, sigma, allowance}
 use Rattle.custody.specs.Checks.{quiet}
 use Rattle.custody.specs.Lines.{candidate}
-use Rattle.custody.proofs.RowParts.{below-take, below-weaken, wrapped-below, wrapped-front}
+use Rattle.packing.proofs.Below.{below-higher}
+use Rattle.custody.proofs.Fronts.{take-all-below}
+use Rattle.custody.proofs.RowParts.{wrapped-below, wrapped-front}
 use Rattle.custody.proofs.Tellings.{ready-is, tells-same}
 use Rattle.custody.proofs.lines.deposited.Needs as need
 
@@ -19,7 +21,7 @@ sigma-requires g c κs =
     let r = ready-is (key .degree) _ (c .pre .engines) in
     record {
       engine = (r .field-degree, r .field-modulus, key .size .1);
-      rows = (below-take 3457 (key .degree) (key .h) (key .«h_below»), c .pre .noise);
+      rows = (take-all-below 3457 (key .degree) (key .h) (key .«h_below»), c .pre .noise);
     }
 
 pub distance-requires : need.distance-requires
@@ -31,8 +33,8 @@ distance-requires g c κs =
     let high : w ≤ 11 = omega arith in
     record {
       engine = (r .binary-degree ∙ r .field-degree, r .binary-modulus, key .size .1, r .some);
-      row = below-take 2048 (key .degree) (c .embed .last .out)
-          (below-weaken (2 ^ w) 2048 (c .embed .last .out) (pow-mono high)
+      row = take-all-below 2048 (key .degree) (c .embed .last .out)
+          (below-higher (2 ^ w) 2048 (c .embed .last .out) (pow-mono high)
           (wrapped-below w (c .in-Continue-sigma .sigma) (c .args .message .now) (c .embed .last .out) ls (c .embed .ensures)));
     }
 

@@ -14,7 +14,9 @@ use Rattle.wrapping.specs.Trims.{halved, halving, trim-loss, trimmed-allowance}
 use Rattle.wrapping.specs.Wraps.{measured}
 use Rattle.custody.specs.Checks.{quiet}
 use Rattle.custody.specs.Lines.{candidate}
-use Rattle.custody.proofs.RowParts.{below-take, below-weaken, halvings-below, halved-below, halvings-is}
+use Rattle.packing.proofs.Below.{below-higher}
+use Rattle.custody.proofs.Fronts.{take-all-below}
+use Rattle.custody.proofs.RowParts.{halvings-below, halved-below, halvings-is}
 use Rattle.custody.proofs.lines.shortened.Needs as need
 
 pub distance-requires : need.distance-requires
@@ -24,8 +26,8 @@ distance-requires g c κs =
     let l : length row ≡ 1024 = search needs in
     record {
       engine = (c .pre .engine .0, c .pre .engine .1, key .size .1, c .pre .engine .2);
-      row = below-take 2048 (key .degree) (c .halvings .last .out)
-          (below-weaken 2 2048 (c .halvings .last .out) (lit≤ tt)
+      row = take-all-below 2048 (key .degree) (c .halvings .last .out)
+          (below-higher 2 2048 (c .halvings .last .out) (lit≤ tt)
           (ap (all-below 2) (halvings-is row (c .halvings .last .out) l (c .halvings .ensures)) ∙ halvings-below row));
     }
 

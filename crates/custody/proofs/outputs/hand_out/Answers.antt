@@ -6,7 +6,7 @@ use lib.ListN.{length, take, length-take}
 use Rattle.packing.specs.Digits.{packed}
 use Rattle.packing.specs.Answers as packing
 use Rattle.custody.proofs.Outgoing.{row-answer, written-same}
-use Rattle.custody.proofs.RowParts.{below-take}
+use Rattle.custody.proofs.Fronts.{take-all-below}
 use Rattle.custody.proofs.outputs.hand_out.Needs as need
 
 pub returns : need.returns
@@ -22,7 +22,7 @@ returns c =
     record {
       answers = c .pack-row .ensures .answers
           ∙ ap₂ (λ v i. packing.pack-row-answer v (take i row) (length old)) (c .bits .ensures) k
-          ∙ row-answer w n (take n row) (length old) (a .width .ok .0) (omega arith) (c .pre .1) (omega (arith, length-take n row, l)) (below-take _ n row (a .small));
+          ∙ row-answer w n (take n row) (length old) (a .width .ok .0) (omega arith) (c .pre .1) (omega (arith, length-take n row, l)) (take-all-below _ n row (a .small));
       writes = c .pack-row .ensures .writes
           ∙ ap₂ (λ v i. packing.written (c .pack-row .result) (packed v (take i row)) old) (c .bits .ensures) k
           ∙ written-same (c .pack-row .result) _ old;

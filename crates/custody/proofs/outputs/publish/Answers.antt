@@ -5,7 +5,7 @@ use lib.ListN.{length, take, length-take}
 use Rattle.packing.specs.Digits.{packed}
 use Rattle.packing.specs.Answers as packing
 use Rattle.custody.proofs.Outgoing.{key-answer, written-same}
-use Rattle.custody.proofs.RowParts.{below-take}
+use Rattle.custody.proofs.Fronts.{take-all-below}
 use Rattle.custody.proofs.outputs.publish.Needs as need
 
 pub returns : need.returns
@@ -19,7 +19,7 @@ returns c =
     record {
       answers = c .pack-key .ensures .answers
           ∙ ap (λ i. packing.pack-key-answer n (take i (key .h)) (length old)) k
-          ∙ key-answer n (take n (key .h)) (length old) (c .pre) low (key .size .0) (omega (arith, length-take n (key .h), long)) (below-take 3457 n (key .h) (key .«h_below»));
+          ∙ key-answer n (take n (key .h)) (length old) (c .pre) low (key .size .0) (omega (arith, length-take n (key .h), long)) (take-all-below 3457 n (key .h) (key .«h_below»));
       writes = c .pack-key .ensures .writes
           ∙ ap (λ i. packing.written (c .pack-key .result) (packed 12 (take i (key .h))) old) k
           ∙ written-same (c .pack-key .result) _ old;

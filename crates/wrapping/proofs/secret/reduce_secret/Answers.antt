@@ -12,7 +12,8 @@ use Rattle.ring.proofs.Fills.{mapped-put}
 use Rattle.ring.specs.Wholes.{residue}
 use Rattle.wrapping.specs.Secrets.{secret, secret-at}
 use Rattle.wrapping.proofs.Filling.{over-done}
-use Rattle.wrapping.proofs.Coefficients.{length-secret, getD-secret}
+use Rattle.wrapping.proofs.Coefficients.{getD-secret}
+use Rattle.wrapping.proofs.SecretLaws.{length-secret}
 use Rattle.wrapping.proofs.secret.reduce_secret.Needs as need
 
 pub loop-i-holds : need.loop-i-holds
