@@ -1,6 +1,8 @@
 // Carries out a script from standard input: a line is answered by a line, and a last line counts them.
+mod calls;
 mod lines;
 mod session;
+mod tasks;
 
 use lines::Lines;
 use lines::LinesIterator;
@@ -27,8 +29,9 @@ impl Tally {
     fn count(&mut self, answer: &Answer) {
         match answer {
             Answer::Unread(_) => self.unread = self.unread.wrapping_add(1),
-            Answer::Refused(_) | Answer::NoSuchEngine => self.refused = self.refused
-                .wrapping_add(1),
+            Answer::Refused(_) | Answer::NoSuchEngine | Answer::NoDraft | Answer::NoStation => {
+                self.refused = self.refused.wrapping_add(1);
+            }
             _ => self.obeyed = self.obeyed.wrapping_add(1),
         }
     }
@@ -41,9 +44,10 @@ fn answer(
     name: &str,
     words: &mut Words<'_>,
 ) -> Result<Answer, AllocError> {
-    match command::read(rt.alloc(), name, words) {
+    match command::read(rt.alloc(), name, words, session.degree()) {
         Ok(command) => session.carry_out(rt.alloc(), command),
         Err(Fault::Unread(what)) => Ok(Answer::Unread(what)),
+        Err(Fault::NoSuchEngine) => Ok(Answer::NoSuchEngine),
         Err(Fault::Memory) => Err(AllocError),
     }
 }

@@ -1,6 +1,7 @@
 // Key custody: drafts are keyed, commissioned into stations, and stations keep wrapped messages.
 pub mod call;
 pub mod draft;
+pub mod engines;
 pub mod exchange;
 pub mod filled;
 pub mod holder;

@@ -1,4 +1,5 @@
 // What a command answers, and how the answer is written.
+use crate::bytes;
 use crate::fault::Unread;
 use crate::fault::UnreadDisplay;
 use ring::refusal::Refusal;
@@ -9,8 +10,13 @@ use std::fmt;
 pub enum Answer {
     Done,
     Refused(Refusal),
+    Bytes(Vec<u8>),
     Row(Vec<u16>),
+    Told { width: u32, allowance: u16 },
+    Likeness(bool),
     NoSuchEngine,
+    NoDraft,
+    NoStation,
     Unread(Unread),
 }
 
@@ -34,8 +40,14 @@ pub impl fmt::Display for Answer as AnswerDisplay {
         match self {
             Answer::Done => write!(f, "done"),
             Answer::Refused(refusal) => write!(f, "refused {refusal}"),
+            Answer::Bytes(values) => bytes::write(values.as_slice(), f),
             Answer::Row(row) => write_row(row.as_slice(), f),
+            Answer::Told { width, allowance } => write!(f, "width {width} allowance {allowance}"),
+            Answer::Likeness(true) => write!(f, "yes"),
+            Answer::Likeness(false) => write!(f, "no"),
             Answer::NoSuchEngine => write!(f, "no such engine"),
+            Answer::NoDraft => write!(f, "no draft"),
+            Answer::NoStation => write!(f, "no station"),
             Answer::Unread(what) => write!(f, "cannot read {what}"),
         }
     }

@@ -30,10 +30,12 @@ pub impl fmt::Display for Unread as UnreadDisplay {
     }
 }
 
-// A line that cannot be read is answered; want of memory ends the program.
+// A line that cannot be read is answered, and so is one that asks for an engine of an unlawful
+// degree or modulus; want of memory ends the program.
 #[derive(Clone, Copy, PartialEq, Eq, Debug)]
 pub enum Fault {
     Unread(Unread),
+    NoSuchEngine,
     Memory,
 }
 

@@ -65,7 +65,7 @@ fn term(row: &mut [i32], text: &str, next: usize) -> Result<usize, Unread> {
 }
 
 // A row of `degree` places, or of the length that it is written with.
-pub fn read(heap: Global, text: &str, degree: usize) -> Result<Vec<i32>, Fault> {
+fn read(heap: Global, text: &str, degree: usize) -> Result<Vec<i32>, Fault> {
     let mut length = degree;
     let mut terms = text;
     if let Some((head, rest)) = text.split_once('/') {
@@ -86,10 +86,10 @@ pub fn read(heap: Global, text: &str, degree: usize) -> Result<Vec<i32>, Fault> 
 }
 
 // A row of coefficients without sign.
-pub fn unsigned(heap: Global, row: &[i32]) -> Result<Vec<u16>, Fault> {
+pub fn unsigned(heap: Global, text: &str, degree: usize) -> Result<Vec<u16>, Fault> {
     let mut out = Vec::new(heap);
-    for v in row {
-        match u16::try_from(*v) {
+    for v in read(heap, text, degree)? {
+        match u16::try_from(v) {
             Ok(x) => out.push(x)?,
             Err(_) => return Err(Fault::Unread(Unread::Number)),
         }
@@ -98,10 +98,10 @@ pub fn unsigned(heap: Global, row: &[i32]) -> Result<Vec<u16>, Fault> {
 }
 
 // A row of coefficients with sign.
-pub fn signed(heap: Global, row: &[i32]) -> Result<Vec<i16>, Fault> {
+pub fn signed(heap: Global, text: &str, degree: usize) -> Result<Vec<i16>, Fault> {
     let mut out = Vec::new(heap);
-    for v in row {
-        match i16::try_from(*v) {
+    for v in read(heap, text, degree)? {
+        match i16::try_from(v) {
             Ok(x) => out.push(x)?,
             Err(_) => return Err(Fault::Unread(Unread::Number)),
         }

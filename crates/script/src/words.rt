@@ -43,3 +43,11 @@ pub fn number(word: &str) -> Result<usize, Unread> {
         Err(_) => Err(Unread::Number),
     }
 }
+
+// A width in bits, in decimal digits.
+pub fn width(word: &str) -> Result<u32, Unread> {
+    match word.parse::<u32>() {
+        Ok(bits) => Ok(bits),
+        Err(_) => Err(Unread::Number),
+    }
+}
