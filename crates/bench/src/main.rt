@@ -1,4 +1,6 @@
 // Carries out cases at degree 16 by the library, and says of each whether it holds.
+#![tactic(auto)]
+
 mod calls;
 mod counts;
 mod desk;

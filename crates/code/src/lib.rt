@@ -1,4 +1,6 @@
 // The code that carries four message bits in eight coefficients: sixteen words, folds, squared distances and the nearest word.
+#![tactic(auto)]
+
 mod costs;
 pub mod distance;
 pub mod fold;

@@ -1,4 +1,6 @@
 // Carries out a script from standard input: a line is answered by a line, and a last line counts them.
+#![tactic(auto)]
+
 use session::lines::Lines;
 use session::state::Session;
 use session::tally::Tally;

@@ -1,4 +1,6 @@
 // Key custody: drafts are commissioned into stations, stations keep wrapped messages, and every list of calls keeps the promise.
+#![tactic(auto)]
+
 pub mod call;
 mod engines;
 pub mod exchange;

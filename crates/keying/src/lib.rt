@@ -1,4 +1,6 @@
 // Keys and their making: a draft over two engines takes f' and g, and h is made so that h·f = g modulo 3457.
+#![tactic(auto)]
+
 pub mod draft;
 mod inverse;
 pub mod key;

@@ -1,5 +1,7 @@
 // The eight places of a station: what a filled place holds, and how places are looked at, filled, joined and emptied.
 // A station that has found its key fit for its engines meets each `requires` here.
+#![tactic(auto)]
+
 pub mod filled;
 mod keeping;
 pub mod lines;

@@ -1,4 +1,6 @@
 // How a script's lines are read: words, numbers, bytes and rows.
+#![tactic(auto)]
+
 mod arguments;
 pub mod coefficients;
 pub mod fault;

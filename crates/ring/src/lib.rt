@@ -1,4 +1,6 @@
 // The ring x^n = x^(n/2) - 1 over residues, and the engines that multiply in it.
+#![tactic(auto)]
+
 pub mod coefficient;
 pub mod counting;
 pub mod engine;

@@ -1,4 +1,6 @@
 // A session: what a script has at hand between its lines, and how each line is answered.
+#![tactic(auto)]
+
 mod answers;
 mod calls;
 mod commands;

@@ -1,5 +1,7 @@
 // Carries out a script at each of four degrees, and holds every answer to the one that an
 // independent model of the rules gives.
+#![tactic(auto)]
+
 mod comparison;
 
 use comparison::Comparison;

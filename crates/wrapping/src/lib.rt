@@ -1,4 +1,6 @@
 // Wrapped messages as rows of coefficients: wrapping, joining, trimming, and what noise does to them.
+#![tactic(auto)]
+
 pub mod join;
 pub mod noise;
 pub mod secret;
