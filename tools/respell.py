@@ -18,7 +18,7 @@ DECLARED = re.compile(
     r"^( *)((?:(?:abbrev|pub|unfoldable|record|data|ruleset) +)*)([^\s(){}\[\],;.:=]+) *(?::|=|\{|\()"
 )
 TOKEN = re.compile(r"[^\s(){}\[\],;.:«»\"`]+")
-IMPORT = re.compile(r"use +(Rattle\.std[^{;\n]*|borrow[^{;\n]*)\.\{([^}]*)\}")
+IMPORT = re.compile(r"use +(Rattle\.std[^{;\n]*|[a-z][^{;\n]*)\.\{([^}]*)\}")
 RESERVED = {"use", "module", "let", "mod", "in", "elim", "λ", "where", "open", "unfolding", "mutual"}
 
 

@@ -1,6 +1,6 @@
 -- Lists of digits and the numbers that they stand for determine each other.
 use Rattle.std.proofs.Common.{◌≡◌, ℕ, zero, suc, ◌+◌, ◌*◌, ◌/◌, ◌%◌, ◌^◌, ◌<◌, true, List, [], ◌∷◌, length, refl, ap, ◌∙◌, ap₂, mod-lt, mod-eq_of_lt, mul-le-mul_left, arith}
-use native.Mathlib.Nat.{mod-add-div, pow_succ', pow-zero, div-eq_of_lt, add-mul-div_left, add-mul-mod_self_left}
+use native.Mathlib.Nat.{mod-add-div, pow-succ', pow-zero, div-eq_of_lt, add-mul-div_left, add-mul-mod_self_left}
 use Rattle.std.proofs.lemmas.Nat.{div_below}
 use Rattle.std.proofs.lemmas.Bool.{ltb-true, lt-ltb, and_parts, and_from}
 use Rattle.ring.specs.Engines.{all_below}
@@ -23,7 +23,7 @@ value_lt b (x ∷ xs) low =
     let parts = and_parts _ _ low in
     let here = ltb-true x b parts.0 in
     let above = mul-le-mul_left b (value_lt b xs parts.1) in
-    omega (arith, here, above, pow_succ' b (length xs))
+    omega (arith, here, above, pow-succ' b (length xs))
 
 pub digits_value : (b : ℕ) (xs : List ℕ) → all_below b xs ≡ true → digits b (length xs) (value b xs) ≡ xs
 unfolding value digits
@@ -40,5 +40,5 @@ pub value-digits : (b count v : ℕ) → 0 < b → v < b ^ count → value b (di
 unfolding value digits
 value-digits b zero v some small = let z = pow-zero b in omega arith
 value-digits b (suc count) v some small =
-    let less : v / b < b ^ count = div_below v b (b ^ count) some (omega (arith, pow_succ' b count)) in
+    let less : v / b < b ^ count = div_below v b (b ^ count) some (omega (arith, pow-succ' b count)) in
     ap (λ q. v % b + b * q) (value-digits b count (v / b) some less) ∙ mod-add-div v b

@@ -1,6 +1,6 @@
 -- How much packing and unpacking give, and that they undo each other.
 use Rattle.std.proofs.Common.{◌≡◌, ℕ, zero, suc, ◌+◌, ◌*◌, ◌/◌, ◌%◌, ◌^◌, ◌<◌, true, List, length, sym, ap, ◌∙◌, subst, ap₂, arith}
-use native.Mathlib.Nat.{pow-zero, pow_succ'}
+use native.Mathlib.Nat.{pow-zero, pow-succ'}
 use Rattle.std.proofs.lemmas.Nat.{pow_pos, pow-add}
 use Rattle.ring.specs.Engines.{all_below}
 use Rattle.packing.specs.Digits.{value, digits, packed, unpacked}
@@ -26,7 +26,7 @@ unpacked-below w count bytes = digits-below _ _ _ (pow_pos w)
 pow_pow : (w count : ℕ) → (2 ^ w) ^ count ≡ 2 ^ (count * w)
 pow_pow w zero = pow-zero (2 ^ w) ∙ ap (λ k. 2 ^ k) (let e : 0 ≡ 0 * w = omega arith in e)
 pow_pow w (suc count) =
-    pow_succ' (2 ^ w) count ∙ ap (λ q. 2 ^ w * q) (pow_pow w count) ∙ sym (pow-add 2 w (count * w))
+    pow-succ' (2 ^ w) count ∙ ap (λ q. 2 ^ w * q) (pow_pow w count) ∙ sym (pow-add 2 w (count * w))
     ∙ ap (λ k. 2 ^ k) (let e : w + count * w ≡ suc count * w = omega arith in e)
 
 -- the same bits in groups of w and of u

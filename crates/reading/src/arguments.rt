@@ -48,7 +48,7 @@ impl Words<'_> {
         heap: Global,
         degree: usize,
     ) -> Result<Vec<C>, Fault>
-        ensures answers { Spared (leaving vec_items self.new result) (argument (row_by reads degree) (words_left self.old)) }
+        ensures answers { Spared (leaving vec_items self.new result) (argument (row_by C.reads degree) (words_left self.old)) }
         ensures leaves { words_left self.new ≡ others (words_left self.old) }
     {
         let word = self.required()?;

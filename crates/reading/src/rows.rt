@@ -83,7 +83,7 @@ fn numbers_of(heap: Global, text: &[u8], degree: usize) -> Result<Vec<i32>, Faul
 
 // Numbers as coefficients of one kind.
 fn narrowed<C: Coefficient + Drop>(heap: Global, row: &[i32]) -> Result<Vec<C>, Fault>
-    ensures { Spared (seen vec_items result) (faulty (each reads row.now)) }
+    ensures { Spared (seen vec_items result) (faulty (each C.reads row.now)) }
 {
     let mut out = Vec::new(heap);
     for value in row {
@@ -98,7 +98,7 @@ pub(crate) fn read<C: Coefficient + Drop>(
     text: &[u8],
     degree: usize,
 ) -> Result<Vec<C>, Fault>
-    ensures { Spared (seen vec_items result) (faulty (row_by reads degree text.now)) }
+    ensures { Spared (seen vec_items result) (faulty (row_by C.reads degree text.now)) }
 {
     let row = numbers_of(heap, text, degree)?;
     narrowed(heap, row.as_slice())

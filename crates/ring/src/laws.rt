@@ -7,7 +7,7 @@ use crate::coefficient::Coefficient;
 
 // The product of rows keeps the laws of the ring, and is the only one that does.
 pub fn laws_stand<C: Coefficient>()
-    ensures { Laws ring }
+    ensures { Laws C.ring }
 {}
 
 // The same over the whole numbers, which no type of the code holds.

@@ -6,7 +6,7 @@ use crate::coefficient::Coefficient;
 
 // x times a row: each coefficient goes up one place, and the top one comes back as x^(n/2) - 1.
 pub fn turn<C: Coefficient>(row: &mut [C])
-    ensures { row.new ≡ turned ring row.old }
+    ensures { row.new ≡ turned C.ring row.old }
 {
     if row.is_empty() {
         return;
@@ -20,7 +20,7 @@ pub fn turn<C: Coefficient>(row: &mut [C])
 
 // Adds k times a row to another, at the places that both have.
 pub fn add_multiple<C: Coefficient>(target: &mut [C], k: C, row: &[C])
-    ensures { target.new ≡ add_into ring target.old k row.now }
+    ensures { target.new ≡ add_into C.ring target.old k row.now }
 {
     let common = target.len().min(row.len());
     for i in 0..common {

@@ -37,7 +37,7 @@ impl Turning {
 // The product of two rows by Horner's rule, from the top coefficient of a down.
 fn horner<C: Coefficient>(a: &[C], b: &[C], out: &mut [C])
     requires { (0 < length out.old) × ((length a.now ≡ length out.old) × (length b.now ≡ length out.old)) }
-    ensures { out.new ≡ product ring (length out.old) a.now b.now }
+    ensures { out.new ≡ product C.ring (length out.old) a.now b.now }
 {
     for place in out.iter_mut() {
         *place = C::zero();

@@ -21,7 +21,7 @@ loop-i-preserved c =
     let f : SFits w32 (get_or c.args.octet c.loop-i.i (pos 0)) = search rules in
     let l : length c.args.octet ≡ 8 = search rules in
     let t = turn (radius c.args.width.bits) c.args.number.value c.word-bits.result (get_or c.args.octet c.loop-i.i (pos 0)) c.loop-i.i c.pick-sum.result _ _
-    c.word-bits.ensures c.args.number.small (simp to_z-of_z at c.place-costs.ensures.zero) (simp to_z-of_z at c.place-costs.ensures.one) c.pick-sum.ensures.value in (
+    c.word-bits.ensures c.args.number.small (simp to_z-of_z at c.place_costs.ensures.zero) (simp to_z-of_z at c.place_costs.ensures.one) c.pick-sum.ensures.value in (
       omega (arith, c.loop-i.invariant.0, c.pick-sum.ensures.small),
       omega (arith, c.loop-i.invariant.1, t, gap_more (radius c.args.width.bits) c.args.octet c.word-bits.result c.loop-i.i (omega arith) (omega (arith, ap length c.word-bits.ensures, word-length c.args.number.value c.args.number.small))),
     )

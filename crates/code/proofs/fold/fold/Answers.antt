@@ -12,13 +12,13 @@ folded w x y f e s = (e ∙ ap (fold (radius w)) s, omega (arith, ap nat_abs (e 
 pub returns-then-rest-r : goal.returns-then-rest-r
 returns-then-rest-r c =
     let e = folded c.args.width.bits _ _ _
-    (fold-low (radius c.args.width.bits) _ _ c.rem-euclid-rest.result (radius-pos c.args.width.bits) (omega (arith, ints, c.radius-r.ensures.value)) c.rem-euclid-rest.ensures.value (omega (arith, ints)))
+    (fold-low (radius c.args.width.bits) _ _ c.rem_euclid-rest.result (radius-pos c.args.width.bits) (omega (arith, ints, c.radius-r.ensures.value)) c.rem_euclid-rest.ensures.value (omega (arith, ints)))
     (to_z-of_z w32 c.args.x c.ranges.x) in
     record { value = omega (arith, ints, e.0); small = omega (arith, ints, e.1) }
 
 pub returns-else-rest-r : goal.returns-else-rest-r
 returns-else-rest-r c =
     let e = folded c.args.width.bits _ _ _
-    (fold-high (radius c.args.width.bits) _ _ c.rem-euclid-rest.result (radius-pos c.args.width.bits) (omega (arith, ints, c.radius-r.ensures.value)) c.rem-euclid-rest.ensures.value (omega (arith, ints)))
+    (fold-high (radius c.args.width.bits) _ _ c.rem_euclid-rest.result (radius-pos c.args.width.bits) (omega (arith, ints, c.radius-r.ensures.value)) c.rem_euclid-rest.ensures.value (omega (arith, ints)))
     (to_z-of_z w32 c.args.x c.ranges.x) in
     record { value = omega (arith, ints, e.0); small = omega (arith, ints, e.1) }

@@ -18,7 +18,7 @@ picked k a0 a1 b0 b1 c0 c1 d0 d1 p q s t bits e ep eq es et =
 
 pub loop-k-init : goal.loop-k-init
 unfolding word
-loop-k-init c = (best_none _ _ refl, omega (arith, c.pair-costs-a.ensures.small, c.pair-costs-b.ensures.small, c.pair-costs-c.ensures.small, c.pair-costs-d.ensures.small))
+loop-k-init c = (best_none _ _ refl, omega (arith, c.pair_costs-a.ensures.small, c.pair_costs-b.ensures.small, c.pair_costs-c.ensures.small, c.pair_costs-d.ensures.small))
 
 pub loop-k-preserved : goal.loop-k-preserved
 loop-k-preserved c =
@@ -34,10 +34,10 @@ returns c =
     record {
       best = best_same _ (distance c.args.width.bits c.args.octet) c.loop-k.k 8 _ _ (omega arith)
           (tally_is c.args.width.bits c.args.octet _ _ _ _ _ _ _ _ l
-          (c.pair-costs-a.ensures.zero, c.pair-costs-a.ensures.one)
-          (c.pair-costs-b.ensures.zero, c.pair-costs-b.ensures.one)
-          (c.pair-costs-c.ensures.zero, c.pair-costs-c.ensures.one)
-          (c.pair-costs-d.ensures.zero, c.pair-costs-d.ensures.one))
+          (c.pair_costs-a.ensures.zero, c.pair_costs-a.ensures.one)
+          (c.pair_costs-b.ensures.zero, c.pair_costs-b.ensures.one)
+          (c.pair_costs-c.ensures.zero, c.pair_costs-c.ensures.one)
+          (c.pair_costs-d.ensures.zero, c.pair_costs-d.ensures.one))
           c.loop-k.invariant.0;
       small = c.loop-k.invariant.1;
     }

@@ -20,8 +20,8 @@ loop-j-preserved c =
       c.value-in-loop-j.ensures,
       c.read-low.ensures,
       c.read-high.ensures,
-      ap (nearest w) (octet_saturated (whole c.args.row.now) c.saturating-mul-first.result (2 * c.loop-j.j) v (omega (arith, c.saturating-mul-first.ensures))),
-      ap (nearest w) (octet_saturated (whole c.args.row.now) c.saturating-add.result (2 * c.loop-j.j + 1) v (omega (arith, c.saturating-mul-first.ensures, c.saturating-add.ensures))),
+      ap (nearest w) (octet_saturated (whole c.args.row.now) c.saturating_mul-first.result (2 * c.loop-j.j) v (omega (arith, c.saturating_mul-first.ensures))),
+      ap (nearest w) (octet_saturated (whole c.args.row.now) c.saturating_add.result (2 * c.loop-j.j + 1) v (omega (arith, c.saturating_mul-first.ensures, c.saturating_add.ensures))),
     )))
 
 pub returns : goal.returns

@@ -12,7 +12,7 @@ loop-i-init c = refl
 
 pub loop-i-preserved : goal.loop-i-preserved
 loop-i-preserved c =
-    let e = c.distance-d.ensures ∙ ap₂ (distance c.args.width.bits) c.octet-at.ensures c.number-at.ensures in
+    let e = c.distance-d.ensures ∙ ap₂ (distance c.args.width.bits) c.octet_at.ensures c.number_at.ensures in
     elim c.if-d-top.branch [
       | then-d-top w ↦ greatest-more _ c.loop-i.i _ (omega (arith, e, w.top-is, w.if-d-top.true, c.loop-i.invariant))
       | else-d-top w ↦ greatest-more _ c.loop-i.i _ (omega (arith, e, w.top-is, w.if-d-top.false, c.loop-i.invariant))

@@ -7,14 +7,14 @@ pub returns : goal.returns
 unfolding octet
 returns c =
     simp (
-      at _ (search rules) c.place-at.ensures,
-      at _ (search rules) c.place-at-2.ensures,
-      at _ (search rules) c.place-at-3.ensures,
-      at _ (search rules) c.place-at-4.ensures,
-      at _ (search rules) c.place-at-5.ensures,
-      at _ (search rules) c.place-at-6.ensures,
-      at _ (search rules) c.place-at-7.ensures,
-      at _ (search rules) c.place-at-8.ensures,
+      at _ (search rules) c.place_at.ensures,
+      at _ (search rules) c.place_at-2.ensures,
+      at _ (search rules) c.place_at-3.ensures,
+      at _ (search rules) c.place_at-4.ensures,
+      at _ (search rules) c.place_at-5.ensures,
+      at _ (search rules) c.place_at-6.ensures,
+      at _ (search rules) c.place_at-7.ensures,
+      at _ (search rules) c.place_at-8.ensures,
     )
   where
     at : (x : ℤ) {y : ℤ} → SFits w32 x → x ≡ y → to_z w32 (of_z w32 x) ≡ y

@@ -17,20 +17,20 @@ loop-init c =
       omega (arith, c.new-reader.ensures.bits, c.requires),
     )
 
-pub returns-in-err-check-residue : goal.returns-in-err-check-residue
-returns-in-err-check-residue c =
-    let x = c.in-ok-entry.entry in
-    let got = c.in-ok-entry.ensures in
-    let why = entry_refused x _ c.in-err-check-residue.ensures in
+pub returns-in_err-check_residue : goal.returns-in_err-check_residue
+returns-in_err-check_residue c =
+    let x = c.in_ok-entry.entry in
+    let got = c.in_ok-entry.ensures in
+    let why = entry_refused x _ c.in_err-check_residue.ensures in
     let stops = entry_stops 3457 4096 _ _ _ (unread c.take.new.self) x c.loop-test.true (taken_is 12 _ _ x got.answers) got.moves.0 why.0 in
-    let exit = err_from_is_err_and c.from-residual-in-err-check-residue.result c.from-residual-in-err-check-residue.ensures.1 in
+    let exit = err_from_is_err_and c.from_residual-in_err-check_residue.result c.from_residual-in_err-check_residue.ensures.1 in
     exit.1 ∙ ap {B = Result (Unit {0}) Refusal} Err (exit.2 ∙ why.1) ∙ sym (cond-false _ _ _ (c.loop.invariant.0 ∙ stops))
 
 pub loop-preserved : goal.loop-preserved
 loop-preserved c =
-    let x = c.in-ok-entry.entry in
-    let got = c.in-ok-entry.ensures in
-    let low = entry_obeyed x c.in-ok-check-residue.ensures in
+    let x = c.in_ok-entry.entry in
+    let got = c.in_ok-entry.ensures in
+    let low = entry_obeyed x c.in_ok-check_residue.ensures in
     let goes = entry_goes 3457 4096 _ _ _ (unread c.take.new.self) x c.loop-test.true (taken_is 12 _ _ x got.answers) got.moves.0 low in
     (c.loop.invariant.0 ∙ goes, omega (arith, got.moves.1))
 

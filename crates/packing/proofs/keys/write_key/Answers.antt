@@ -8,8 +8,8 @@ pub returns : goal.returns
 returns c =
     let row = c.args.row.now in
     let out = c.args.out.now in
-    let obeyed = c.pack-row.ensures.answers ∙ key_row_answer row (length out) c.requires.residues c.requires.fills in
+    let obeyed = c.pack_row.ensures.answers ∙ key_row_answer row (length out) c.requires.residues c.requires.fills in
     record {
       answers = obeyed;
-      writes = c.pack-row.ensures.writes ∙ ap (λ r. written r (packed 12 row) out) obeyed;
+      writes = c.pack_row.ensures.writes ∙ ap (λ r. written r (packed 12 row) out) obeyed;
     }

@@ -15,19 +15,19 @@ loop-place-init c =
       omega (arith, c.new-reader.ensures.bits, c.requires.fills, ap (λ k. k * w) all),
     )
 
-pub returns-in-err-place : goal.returns-in-err-place
-returns-in-err-place c =
+pub returns-in_err-place : goal.returns-in_err-place
+returns-in_err-place c =
     let w = c.args.width in
     let some = one_left w (length c.loop-place.out - c.loop-place.place-index) (omega arith) in
-    absurd (taken_never w _ _ _ c.requires.narrow.0 c.requires.narrow.1 (omega arith) c.in-err-place.ensures.answers)
+    absurd (taken_never w _ _ _ c.requires.narrow.0 c.requires.narrow.1 (omega arith) c.in_err-place.ensures.answers)
 
 pub loop-place-preserved : goal.loop-place-preserved
 loop-place-preserved c =
     let w = c.args.width in
     let out = c.loop-place.out in
     let i = c.loop-place.place-index in
-    let x = c.in-ok-place.field-0 in
-    let got = c.in-ok-place.ensures in
+    let x = c.in_ok-place.field-0 in
+    let got = c.in_ok-place.ensures in
     let within : i < length out = omega arith in (
       fill_more (2 ^ w) out i _ _ _ x within (taken_is w _ _ x got.answers) got.moves.0 c.loop-place.invariant.0,
       omega (arith, got.moves.1, one_fewer w (length out) i within) ∙ ap (λ k. (k - (i + 1)) * w) (sym (length-set out i x)),

@@ -4,10 +4,10 @@ use Rattle.reading.proofs.Counting.{digits_within}
 use Rattle.reading.proofs.numbers.signed.Goals as goal
 
 pub negative-requires : goal.negative-requires
-negative-requires c = digits_within 2147483648 _ _ (sym c.in-ok-digits.ensures)
+negative-requires c = digits_within 2147483648 _ _ (sym c.in_ok-digits-in-Some.ensures)
 
-pub overflow-cast-result : goal.overflow-cast-result
-overflow-cast-result c =
+pub overflow_cast-result : goal.overflow_cast-result
+overflow_cast-result c =
     let within = digits_within 2147483647 _ _ (sym c.in-ok-unsigned.ensures) in
     omega (arith, ints)
 

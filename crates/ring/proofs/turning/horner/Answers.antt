@@ -25,7 +25,7 @@ loop-i-init g c =
 pub loop-i-preserved : goal.loop-i-preserved
 loop-i-preserved g c =
     horner_made g.C.Coefficient.ring _ c.args.a.now c.args.b.now c.loop-i.out c.turn.new.row _ c.loop-i.i _
-    (omega arith) c.loop-i.auto.out (omega arith) (omega arith) (omega arith) c.loop-i.invariant c.turn.ensures c.index-a-i.is c.add-multiple.ensures
+    (omega arith) c.loop-i.auto.out (omega arith) (omega arith) (omega arith) c.loop-i.invariant c.turn.ensures c.index-a-i.is c.add_multiple.ensures
 
 pub returns : goal.returns
 returns g c =

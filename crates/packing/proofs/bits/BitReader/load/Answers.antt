@@ -15,8 +15,8 @@ returns-then-self c =
       bits = c.loop-self.invariant.1;
     }
 
-pub invariant-of-self : goal.invariant-of-self
-invariant-of-self c =
+pub invariant_of-self : goal.invariant_of-self
+invariant_of-self c =
     let reader = c.loop-self.self in
     let small : get_or reader.bytes.now reader.next 0 < 2 ^ 8 = omega arith in
     let low = above_lt reader.pending reader.count 8 (get_or reader.bytes.now reader.next 0) reader.ok.1 small in

@@ -3,8 +3,8 @@ use Rattle.packing.specs.Digits.{value}
 use Rattle.packing.proofs.Streams.{rest_is, lowest_is, rest_lt, low_bits}
 use Rattle.packing.proofs.bits.BitReader.pass_on.Goals as goal
 
-pub invariant-of-self : goal.invariant-of-self
-invariant-of-self c =
+pub invariant_of-self : goal.invariant_of-self
+invariant_of-self c =
     let reader = c.args.self.now in
     ((omega arith, rest_lt reader.pending reader.count c.args.width c.requires.1 reader.ok.1), tt)
 
