@@ -11,7 +11,7 @@ use ring::rows;
 
 // Adds k·x^shift times a row to another, at the places that the other has.
 fn add_shifted<C: Coefficient>(target: &mut [C], k: C, shift: usize, row: &[C])
-    ensures { target.new ≡ add_shifted ring target.old k shift row.now }
+    ensures { target.new ≡ add_shifted C.ring target.old k shift row.now }
 {
     let places = target.len();
     if shift < places {
@@ -31,8 +31,8 @@ fn reduce<C: Coefficient>(
     scale: C,
 )
     requires { top < length upper.old }
-    ensures row { upper.new ≡ divided ring upper.old lower.now scale place (suc top - place) }
-    ensures beside { upper_cofactor.new ≡ along ring upper.old upper_cofactor.old lower.now lower_cofactor.now scale place (suc top - place) }
+    ensures row { upper.new ≡ divided C.ring upper.old lower.now scale place (suc top - place) }
+    ensures beside { upper_cofactor.new ≡ along C.ring upper.old upper_cofactor.old lower.now lower_cofactor.now scale place (suc top - place) }
 {
     for i in (place..top + 1).rev() {
         let k = upper[i].times(scale).minus();

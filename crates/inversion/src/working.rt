@@ -11,7 +11,7 @@ use ring::rows;
 
 // Makes every place zero.
 pub(crate) fn clear<C: Coefficient>(row: &mut [C])
-    ensures { row.new ≡ zeros ring (length row.old) }
+    ensures { row.new ≡ zeros C.ring (length row.old) }
 {
     for place in row.iter_mut() {
         *place = C::zero();
@@ -21,7 +21,7 @@ pub(crate) fn clear<C: Coefficient>(row: &mut [C])
 // Makes a row 1.
 pub(crate) fn set_one<C: Coefficient>(row: &mut [C])
     requires { 0 < length row.old }
-    ensures { row.new ≡ unit ring (length row.old) }
+    ensures { row.new ≡ unit C.ring (length row.old) }
 {
     clear(row);
     row[0] = C::one();
@@ -30,7 +30,7 @@ pub(crate) fn set_one<C: Coefficient>(row: &mut [C])
 // Makes a row x^n - x^(n/2) + 1, which has n + 1 places.
 pub(crate) fn set_modulus<C: Coefficient>(row: &mut [C], n: usize)
     requires { (0 < n) × (length row.old ≡ n + 1) }
-    ensures { row.new ≡ modulus_row ring n }
+    ensures { row.new ≡ modulus_row C.ring n }
 {
     set_one(row);
     let half = n / 2;
@@ -41,7 +41,7 @@ pub(crate) fn set_modulus<C: Coefficient>(row: &mut [C], n: usize)
 // Makes a row f with one zero after it.
 pub(crate) fn set_padded<C: Coefficient>(row: &mut [C], f: &[C])
     requires { length row.old ≡ length f.now + 1 }
-    ensures { row.new ≡ f.now ++ zeros ring 1 }
+    ensures { row.new ≡ f.now ++ zeros C.ring 1 }
 {
     clear(row);
     rows::add_multiple(row, C::one(), f);

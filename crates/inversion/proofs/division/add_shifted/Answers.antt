@@ -3,7 +3,7 @@ use Rattle.inversion.proofs.division.add_shifted.Goals as goal
 
 pub returns-then-shift-places : goal.returns-then-shift-places
 returns-then-shift-places g c =
-    added_part g.C.Coefficient.ring c.args.shift c.args.target.now c.args.k c.args.row.now c.add-multiple.new.target c.add-multiple.ensures
+    added_part g.C.Coefficient.ring c.args.shift c.args.target.now c.args.k c.args.row.now c.add_multiple.new.target c.add_multiple.ensures
 
 pub returns-else-shift-places : goal.returns-else-shift-places
 returns-else-shift-places g c = added_past g.C.Coefficient.ring c.args.shift c.args.target.now c.args.k c.args.row.now c.if-shift-places.false

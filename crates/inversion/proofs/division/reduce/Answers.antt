@@ -14,8 +14,8 @@ loop-i-preserved g c =
     let within : i ≤ length a = omega arith in
     let k-is : c.minus-k.result ≡ R.neg (R.mul x c.args.scale) = c.minus-k.ensures ∙ ap R.neg c.times.ensures in (
       d.divided_step R a b c.args.scale q i x c.minus-k.result above within c.index-upper-i.is k-is _ c.add_shifted.ensures ∙ c.loop-i.invariant.0,
-      d.along_step R a b c.args.scale q i x c.minus-k.result above within c.index-upper-i.is k-is c.loop-i.upper-cofactor c.args.lower-cofactor.now _ _
-          c.add_shifted.ensures c.add-shifted-in-loop-i.ensures ∙ c.loop-i.invariant.1,
+      d.along_step R a b c.args.scale q i x c.minus-k.result above within c.index-upper-i.is k-is c.loop-i.upper_cofactor c.args.lower_cofactor.now _ _
+          c.add_shifted.ensures c.add_shifted-in-loop-i.ensures ∙ c.loop-i.invariant.1,
     )
 
 pub returns : goal.returns
@@ -24,6 +24,6 @@ returns g c =
     record {
       row = sym (d.divided_none R c.loop-i.upper c.args.lower.now c.args.scale c.args.place c.loop-i.i c.loop-i-test.false) ∙ c.loop-i.invariant.0;
       beside =
-          sym (d.along_none R c.loop-i.upper c.loop-i.upper-cofactor c.args.lower.now c.args.lower-cofactor.now c.args.scale c.args.place c.loop-i.i
+          sym (d.along_none R c.loop-i.upper c.loop-i.upper_cofactor c.args.lower.now c.args.lower_cofactor.now c.args.scale c.args.place c.loop-i.i
           c.loop-i-test.false) ∙ c.loop-i.invariant.1;
     }

@@ -10,13 +10,13 @@ use Rattle.inversion.proofs.euclid.finish.Goals as goal
 pub returns : goal.returns
 returns c =
     let row = c.args.last.now in
-    let scale = c.in-Some-inverse-at.scale in
+    let scale = c.in-Some-inverse_at.scale in
     let z : c.in-Some.place ≡ 0 = omega arith in
     let e : leading row ≡ Some 0 = sym c.leading.ensures.is ∙ c.in-Some.is ∙ ap Some z in
     let leads = leading-some row 0 e in
     let scale-is : scale ≡ reciprocal (at field row 0) =
-    inverse-only field (at field row 0) scale (reciprocal (at field row 0)) c.in-Some-inverse-at.ensures (reciprocal-inverts (at field row 0) leads.1.some) in
+    inverse-only field (at field row 0) scale (reciprocal (at field row 0)) c.in-Some-inverse_at.ensures (reciprocal-inverts (at field row 0) leads.1.some) in
     record {
-      found = (e, c.add-multiple.ensures ∙ ap₂ (λ w k. add_into field w k c.args.cofactor.now) c.clear.ensures scale-is);
+      found = (e, c.add_multiple.ensures ∙ ap₂ (λ w k. add_into field w k c.args.cofactor.now) c.clear.ensures scale-is);
       refuses = tt;
     }

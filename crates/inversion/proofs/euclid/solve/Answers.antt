@@ -7,31 +7,31 @@ use Rattle.inversion.proofs.euclid.solve.Goals as goal
 
 pub loop-upper-init : goal.loop-upper-init
 loop-upper-init c =
-    run_moved (sym c.set-modulus.ensures) (sym (c.clear.ensures ∙ ap (zeros field) c.requires.rooms.1))
-    (sym c.set-padded.ensures) (sym (c.set-one.ensures ∙ ap (unit field) c.requires.rooms.3)) (run_starts c.args.f.now c.requires.lengths.0)
+    run_moved (sym c.set_modulus.ensures) (sym (c.clear.ensures ∙ ap (zeros field) c.requires.rooms.1))
+    (sym c.set_padded.ensures) (sym (c.set_one.ensures ∙ ap (unit field) c.requires.rooms.3)) (run_starts c.args.f.now c.requires.lengths.0)
 
 pub loop-upper-smaller : goal.loop-upper-smaller
 loop-upper-smaller c =
-    let q = is_some (leading c.loop-upper.lower) (sym (c.is-some.ensures ∙ ap option_is_some c.leading.ensures.is) ∙ c.loop-upper-test.true) in
-    let falls = run_falls c.args.f.now c.loop-upper.upper c.loop-upper.upper-cofactor c.loop-upper.lower c.loop-upper.lower-cofactor
+    let q = is_some (leading c.loop-upper.lower) (sym (c.is_some.ensures ∙ ap option_is_some c.leading.ensures.is) ∙ c.loop-upper-test.true) in
+    let falls = run_falls c.args.f.now c.loop-upper.upper c.loop-upper.upper_cofactor c.loop-upper.lower c.loop-upper.lower_cofactor
     c.requires.lengths.0 c.loop-upper.invariant q.0 q.1 in
     subst (λ (x : List F). height (leading x) < height (leading c.loop-upper.lower)) (sym (c.exchange.ensures.second ∙ c.divide.ensures.row)) falls
 
 pub loop-upper-preserved : goal.loop-upper-preserved
 loop-upper-preserved c =
-    let q = is_some (leading c.loop-upper.lower) (sym (c.is-some.ensures ∙ ap option_is_some c.leading.ensures.is) ∙ c.loop-upper-test.true) in
+    let q = is_some (leading c.loop-upper.lower) (sym (c.is_some.ensures ∙ ap option_is_some c.leading.ensures.is) ∙ c.loop-upper-test.true) in
     run_moved (sym c.exchange.ensures.first) (sym c.exchange-in-loop-upper.ensures.first)
     (sym (c.exchange.ensures.second ∙ c.divide.ensures.row)) (sym (c.exchange-in-loop-upper.ensures.second ∙ c.divide.ensures.beside))
-    (run_goes c.args.f.now c.loop-upper.upper c.loop-upper.upper-cofactor c.loop-upper.lower c.loop-upper.lower-cofactor
+    (run_goes c.args.f.now c.loop-upper.upper c.loop-upper.upper_cofactor c.loop-upper.lower c.loop-upper.lower_cofactor
     c.requires.lengths.0 c.loop-upper.invariant q.0 q.1)
 
 pub returns : goal.returns
 returns c =
     let end : leading c.loop-upper.lower ≡ None =
-    is_none (leading c.loop-upper.lower) (sym (c.is-some.ensures ∙ ap option_is_some c.leading.ensures.is) ∙ c.loop-upper-test.false) in
+    is_none (leading c.loop-upper.lower) (sym (c.is_some.ensures ∙ ap option_is_some c.leading.ensures.is) ∙ c.loop-upper-test.false) in
     record {
-      found = solved c.args.f.now c.args.u.now c.loop-upper.upper c.loop-upper.upper-cofactor c.loop-upper.lower c.loop-upper.lower-cofactor
+      found = solved c.args.f.now c.args.u.now c.loop-upper.upper c.loop-upper.upper_cofactor c.loop-upper.lower c.loop-upper.lower_cofactor
           c.finish.new.u c.finish.result c.requires.lengths.0 c.requires.lengths.1 c.loop-upper.invariant end c.finish.ensures.found;
       refuses = c.finish.ensures.refuses;
-      last = run_ends c.args.f.now c.loop-upper.upper c.loop-upper.upper-cofactor c.loop-upper.lower c.loop-upper.lower-cofactor c.loop-upper.invariant end;
+      last = run_ends c.args.f.now c.loop-upper.upper c.loop-upper.upper_cofactor c.loop-upper.lower c.loop-upper.lower_cofactor c.loop-upper.invariant end;
     }

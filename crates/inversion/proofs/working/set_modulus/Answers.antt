@@ -7,7 +7,7 @@ pub returns : goal.returns
 returns g c =
     let R = g.C.Coefficient.ring in
     let n = c.args.n in
-    ap (set (set c.set-one.new.row (n / 2) c.plus.result) n) c.one-2.ensures
-    ∙ modulus_made R n c.set-one.new.row c.index-row-half.result c.plus.result c.requires.0
-    (c.set-one.ensures ∙ ap (unit R) c.requires.1) c.index-row-half.is
+    ap (set (set c.set_one.new.row (n / 2) c.plus.result) n) c.one-2.ensures
+    ∙ modulus_made R n c.set_one.new.row c.index-row-half.result c.plus.result c.requires.0
+    (c.set_one.ensures ∙ ap (unit R) c.requires.1) c.index-row-half.is
     (c.plus.ensures ∙ ap (R.add c.index-row-half.result) (c.minus.ensures ∙ ap R.neg c.one.ensures))

@@ -11,5 +11,5 @@ returns g c =
       sized = c.measured.ensures.sized;
       modular = c.measured.ensures.modular;
       obeyed = refl;
-      writes = decoded_front n c.args.width c.in-ok-row.row v c.decode.new.out (length c.args.out.now) c.in-ok-row.ensures.value c.decode.ensures;
+      writes = decoded_front n c.args.width c.in_ok-row.row v c.decode.new.out (length c.args.out.now) c.in_ok-row.ensures.value c.decode.ensures;
     }

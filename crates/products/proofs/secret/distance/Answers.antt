@@ -11,5 +11,5 @@ returns g c =
       sized = c.measured.ensures.sized;
       modular = c.measured.ensures.modular;
       obeyed = refl;
-      value = farthest_front n c.args.width c.in-ok-row.row v c.farthest.result c.args.message.now c.in-ok-row.ensures.value c.farthest.ensures;
+      value = farthest_front n c.args.width c.in_ok-row.row v c.farthest.result c.args.message.now c.in_ok-row.ensures.value c.farthest.ensures;
     }

@@ -9,10 +9,10 @@ multiply-requires g c =
     let m = g.Q.RingEngine.modulus c.args.engine.now in
     let n = c.args.n in
     let f = c.args.f.now in
-    let front = secret_front n f c.reduce-secret.new.out c.told-f c.reduce-secret.ensures in
+    let front = secret_front n f c.reduce_secret.new.out c.told-f c.reduce_secret.ensures in
     record {
       engine = (c.requires.engine.0, c.requires.engine.2);
-      residues = (subst (λ (k : ℕ). all_below k (take n c.args.c.now) ≡ true) (sym c.requires.engine.1) c.requires.row, front_below m 2048 (take n c.reduce-secret.new.out) (secret (take n f)) c.requires.engine.1 (omega arith) front);
+      residues = (subst (λ (k : ℕ). all_below k (take n c.args.c.now) ≡ true) (sym c.requires.engine.1) c.requires.row, front_below m 2048 (take n c.reduce_secret.new.out) (secret (take n f)) c.requires.engine.1 (omega arith) front);
     }
 
 pub returns : goal.returns
@@ -20,10 +20,10 @@ returns g c =
     let m = g.Q.RingEngine.modulus c.args.engine.now in
     let n = c.args.n in
     let f = c.args.f.now in
-    let front = secret_front n f c.reduce-secret.new.out c.told-f c.reduce-secret.ensures in
+    let front = secret_front n f c.reduce_secret.new.out c.told-f c.reduce_secret.ensures in
     record {
       sized = c.multiply.ensures.sized;
       modular = c.multiply.ensures.modular;
       obeyed = refl;
-      value = measured_is m n (take n c.multiply.new.out) (take n c.args.c.now) (take n c.reduce-secret.new.out) (take n f) c.requires.engine.1 c.requires.row front c.multiply.ensures.product;
+      value = measured_is m n (take n c.multiply.new.out) (take n c.args.c.now) (take n c.reduce_secret.new.out) (take n f) c.requires.engine.1 c.requires.row front c.multiply.ensures.product;
     }

@@ -8,12 +8,12 @@ negative-requires c = digits_within 2147483648 _ _ (sym c.in_ok-digits-in-Some.e
 
 pub overflow_cast-result : goal.overflow_cast-result
 overflow_cast-result c =
-    let within = digits_within 2147483647 _ _ (sym c.in-ok-unsigned.ensures) in
+    let within = digits_within 2147483647 _ _ (sym c.in_ok-unsigned-in-None.ensures) in
     omega (arith, ints)
 
-pub returns-in-ok-unsigned : goal.returns-in-ok-unsigned
-returns-in-ok-unsigned c =
-    let read = c.in-ok-unsigned.ensures in
+pub returns-in_ok-unsigned-in-None : goal.returns-in_ok-unsigned-in-None
+returns-in_ok-unsigned-in-None c =
+    let read = c.in_ok-unsigned-in-None.ensures in
     let within = digits_within 2147483647 _ _ (sym read) in
-    let same : to_z w32 c.in-ok-unsigned.field-0 ≡ pos c.in-ok-unsigned.field-0 = omega (arith, ints) in
+    let same : to_z w32 c.in_ok-unsigned-in-None.field-0 ≡ pos c.in_ok-unsigned-in-None.field-0 = omega (arith, ints) in
     grind arith

@@ -8,14 +8,14 @@ use Rattle.wrapping.proofs.wrap.embedded.Goals as goal
 most : (r x top : ℕ) → r ≤ 1024 → x ≤ top → r * x ≤ 1024 * top
 most r x top h g = mul-le-mul h g
 
-pub overflow-mul-rounded-2 : goal.overflow-mul-rounded-2
-overflow-mul-rounded-2 c = omega (arith, most c.radius-modulus.result c.args.s 65535 (omega arith) (omega arith))
+pub overflow_mul-rounded-2 : goal.overflow_mul-rounded-2
+overflow_mul-rounded-2 c = omega (arith, most c.radius-modulus.result c.args.s 65535 (omega arith) (omega arith))
 
-pub overflow-add-rounded : goal.overflow-add-rounded
-overflow-add-rounded c = omega (arith, most c.radius-modulus.result c.args.s 65535 (omega arith) (omega arith))
+pub overflow_add-rounded : goal.overflow_add-rounded
+overflow_add-rounded c = omega (arith, most c.radius-modulus.result c.args.s 65535 (omega arith) (omega arith))
 
-pub overflow-add-raised : goal.overflow-add-raised
-overflow-add-raised c =
+pub overflow_add-raised : goal.overflow_add-raised
+overflow_add-raised c =
     omega (arith, most c.radius-modulus.result c.args.s 65535 (omega arith) (omega arith), most c.radius.result c.args.bit 255 (omega arith) (omega arith))
 
 -- the modulus is twice the radius

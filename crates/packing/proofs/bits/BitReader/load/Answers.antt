@@ -20,7 +20,7 @@ invariant_of-self c =
     let reader = c.loop-self.self in
     let small : get_or reader.bytes.now reader.next 0 < 2 ^ 8 = omega arith in
     let low = above_lt reader.pending reader.count 8 (get_or reader.bytes.now reader.next 0) reader.ok.1 small in
-    ((omega arith, omega (arith, low, c.above-self.ensures)), tt)
+    record { ok = (omega arith, omega (arith, low, c.above-self.ensures)) }
 
 pub loop-self-preserved : goal.loop-self-preserved
 loop-self-preserved c =

@@ -6,7 +6,7 @@ use Rattle.packing.proofs.bits.BitReader.pass_on.Goals as goal
 pub invariant_of-self : goal.invariant_of-self
 invariant_of-self c =
     let reader = c.args.self.now in
-    ((omega arith, rest_lt reader.pending reader.count c.args.width c.requires.1 reader.ok.1), tt)
+    record { ok = (omega arith, rest_lt reader.pending reader.count c.args.width c.requires.1 reader.ok.1) }
 
 pub returns : goal.returns
 returns c =
