@@ -13,12 +13,12 @@ pub fn multiply<E: RingEngine>(
     b: &[u16; 1024],
     out: &mut [u16; 1024],
 ) -> Result<(), Refusal>
-    requires engine { (degree engine.old ≡ n) × (n ≤ 1024) }
-    requires residues { (all_below (modulus engine.old) (take n a.now) ≡ true) × (all_below (modulus engine.old) (take n b.now) ≡ true) }
-    ensures sized { degree engine.new ≡ degree engine.old }
-    ensures modular { modulus engine.new ≡ modulus engine.old }
+    requires engine { (E.degree engine.old ≡ n) × (n ≤ 1024) }
+    requires residues { (all_below (E.modulus engine.old) (take n a.now) ≡ true) × (all_below (E.modulus engine.old) (take n b.now) ≡ true) }
+    ensures sized { E.degree engine.new ≡ E.degree engine.old }
+    ensures modular { E.modulus engine.new ≡ E.modulus engine.old }
     ensures obeyed { result ≡ Ok tt }
-    ensures product { take n out.new ≡ product_mod (modulus engine.old) n (take n a.now) (take n b.now) }
+    ensures product { take n out.new ≡ product_mod (E.modulus engine.old) n (take n a.now) (take n b.now) }
     ensures rest { drop n out.new ≡ drop n out.old }
 {
     engine.multiply(&a[0..n], &b[0..n], &mut out[0..n])

@@ -15,10 +15,10 @@ pub fn sigma<P: RingEngine>(
     h: &[u16; 1024],
     noise: &[i16],
 ) -> Result<[u16; 1024], Refusal>
-    requires engine { (degree engine.old ≡ n) × (modulus engine.old ≡ 3457) × (n ≤ 1024) }
+    requires engine { (P.degree engine.old ≡ n) × (P.modulus engine.old ≡ 3457) × (n ≤ 1024) }
     requires rows { (all_below 3457 (take n h.now) ≡ true) × (length noise.now ≡ n) }
-    ensures sized { degree engine.new ≡ degree engine.old }
-    ensures modular { modulus engine.new ≡ modulus engine.old }
+    ensures sized { P.degree engine.new ≡ P.degree engine.old }
+    ensures modular { P.modulus engine.new ≡ P.modulus engine.old }
     ensures obeyed { is_ok result ≡ true }
     ensures value { IfOk result (λ row. take n row ≡ sigma_of n (take n h.now) noise.now) }
 {

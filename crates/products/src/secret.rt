@@ -19,10 +19,10 @@ fn measured<Q: RingEngine>(
     c: &[u16; 1024],
     f: &[i16; 1024],
 ) -> Result<[u16; 1024], Refusal>
-    requires engine { (degree engine.old ≡ n) × (modulus engine.old ≡ 2048) × (n ≤ 1024) × (0 < n) }
+    requires engine { (Q.degree engine.old ≡ n) × (Q.modulus engine.old ≡ 2048) × (n ≤ 1024) × (0 < n) }
     requires row { all_below 2048 (take n c.now) ≡ true }
-    ensures sized { degree engine.new ≡ degree engine.old }
-    ensures modular { modulus engine.new ≡ modulus engine.old }
+    ensures sized { Q.degree engine.new ≡ Q.degree engine.old }
+    ensures modular { Q.modulus engine.new ≡ Q.modulus engine.old }
     ensures obeyed { is_ok result ≡ true }
     ensures value { IfOk result (λ row. take n row ≡ reduced_row 2048 (measured_of n (take n f.now) (take n c.now))) }
 {
@@ -42,10 +42,10 @@ pub fn distance<Q: RingEngine>(
     message: &[u8],
     width: Width,
 ) -> Result<u32, Refusal>
-    requires engine { (degree engine.old ≡ n) × (modulus engine.old ≡ 2048) × (n ≤ 1024) × (0 < n) }
+    requires engine { (Q.degree engine.old ≡ n) × (Q.modulus engine.old ≡ 2048) × (n ≤ 1024) × (0 < n) }
     requires row { all_below 2048 (take n c.now) ≡ true }
-    ensures sized { degree engine.new ≡ degree engine.old }
-    ensures modular { modulus engine.new ≡ modulus engine.old }
+    ensures sized { Q.degree engine.new ≡ Q.degree engine.old }
+    ensures modular { Q.modulus engine.new ≡ Q.modulus engine.old }
     ensures obeyed { is_ok result ≡ true }
     ensures value { IfOk result (λ d. d ≡ farthest width.bits (measured_of n (take n f.now) (take n c.now)) message.now) }
 {
@@ -62,10 +62,10 @@ pub fn decode<Q: RingEngine>(
     width: Width,
     out: &mut [u8],
 ) -> Result<(), Refusal>
-    requires engine { (degree engine.old ≡ n) × (modulus engine.old ≡ 2048) × (n ≤ 1024) × (0 < n) }
+    requires engine { (Q.degree engine.old ≡ n) × (Q.modulus engine.old ≡ 2048) × (n ≤ 1024) × (0 < n) }
     requires row { all_below 2048 (take n c.now) ≡ true }
-    ensures sized { degree engine.new ≡ degree engine.old }
-    ensures modular { modulus engine.new ≡ modulus engine.old }
+    ensures sized { Q.degree engine.new ≡ Q.degree engine.old }
+    ensures modular { Q.modulus engine.new ≡ Q.modulus engine.old }
     ensures obeyed { result ≡ Ok tt }
     ensures writes { out.new ≡ decoded width.bits (measured_of n (take n f.now) (take n c.now)) (length out.old) }
 {
@@ -82,10 +82,10 @@ pub fn message<Q: RingEngine>(
     f: &[i16; 1024],
     width: Width,
 ) -> Result<[u8; 64], Refusal>
-    requires engine { (degree engine.old ≡ n) × (modulus engine.old ≡ 2048) × (n ≤ 1024) × (0 < n) }
+    requires engine { (Q.degree engine.old ≡ n) × (Q.modulus engine.old ≡ 2048) × (n ≤ 1024) × (0 < n) }
     requires row { all_below 2048 (take n c.now) ≡ true }
-    ensures sized { degree engine.new ≡ degree engine.old }
-    ensures modular { modulus engine.new ≡ modulus engine.old }
+    ensures sized { Q.degree engine.new ≡ Q.degree engine.old }
+    ensures modular { Q.modulus engine.new ≡ Q.modulus engine.old }
     ensures obeyed { is_ok result ≡ true }
     ensures value { IfOk result (λ bytes. take (n / 16) bytes ≡ decoded width.bits (measured_of n (take n f.now) (take n c.now)) (n / 16)) }
 {

@@ -19,7 +19,7 @@ fn digit_code(value: u8) -> u8
 
 // Writes the two digits of a byte, the high one first.
 fn byte<W: fmt::Write>(value: u8, f: &mut fmt::Formatter<W>) -> fmt::Result
-    ensures { WritesOnOk write_str_gives f.old result (byte_digits value) f.new }
+    ensures { WritesOnOk W.write_str_gives f.old result (byte_digits value) f.new }
 {
     let high = digit_code(value / 16) as char;
     let low = digit_code(value % 16) as char;
@@ -28,7 +28,7 @@ fn byte<W: fmt::Write>(value: u8, f: &mut fmt::Formatter<W>) -> fmt::Result
 
 // Writes bytes as pairs of digits.
 pub(crate) fn bytes<W: fmt::Write>(values: &[u8], f: &mut fmt::Formatter<W>) -> fmt::Result
-    ensures { WritesOnOk write_str_gives f.old result (hex_of values.now) f.new }
+    ensures { WritesOnOk W.write_str_gives f.old result (hex_of values.now) f.new }
 {
     for value in values {
         byte(*value, f)?;
@@ -43,7 +43,7 @@ fn term<W: fmt::Write>(
     value: u16,
     f: &mut fmt::Formatter<W>,
 ) -> fmt::Result
-    ensures { WritesOnOk write_str_gives f.old result ((if first then [] else codes ",") ++ term_text place value) f.new }
+    ensures { WritesOnOk W.write_str_gives f.old result ((if first then [] else codes ",") ++ term_text place value) f.new }
 {
     if first {
         write!(f, "{place}:{value}")
@@ -54,7 +54,7 @@ fn term<W: fmt::Write>(
 
 // Writes a row as `PLACE:VALUE` for each place that is not zero, or `-` where all are.
 pub(crate) fn row<W: fmt::Write>(values: &[u16], f: &mut fmt::Formatter<W>) -> fmt::Result
-    ensures { WritesOnOk write_str_gives f.old result (row_text values.now) f.new }
+    ensures { WritesOnOk W.write_str_gives f.old result (row_text values.now) f.new }
 {
     let mut first = true;
     for (place, value) in values.iter().enumerate() {

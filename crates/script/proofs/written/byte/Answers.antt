@@ -8,7 +8,7 @@ use Rattle.script.proofs.written.byte.Goals as goal
 pub returns : goal.returns
 returns g c plain ok =
     let high : c.digit_code.result < 128 = grind arith in
-    let low : c.digit-code-2.result < 128 = grind arith in
-    let same : encode c.digit_code.result ++ encode c.digit-code-2.result ≡ byte_digits c.args.value =
-    rw (encode_ascii c.digit_code.result high, encode_ascii c.digit-code-2.result low) (cc) in
+    let low : c.digit_code-2.result < 128 = grind arith in
+    let same : encode c.digit_code.result ++ encode c.digit_code-2.result ≡ byte_digits c.args.value =
+    rw (encode_ascii c.digit_code.result high, encode_ascii c.digit_code-2.result low) (cc) in
     has_written_of_eq g.W.Write.write_str_gives _ _ _ _ same (c.write.ensures.writes plain ok)

@@ -7,7 +7,7 @@ pub loop-value-preserved : goal.loop-value-preserved
 loop-value-preserved g c =
     written-more g.W.Write.write_str_gives _ _ _ _ _ _ _ c.loop-value.invariant
     (hex_more c.args.values.now c.loop-value.value-index c.loop-value-test.true)
-    (λ plain. c.in-ok-byte.ensures plain refl)
+    (λ plain. c.in_ok-byte.ensures plain refl)
 
 pub returns : goal.returns
 returns g c plain ok =

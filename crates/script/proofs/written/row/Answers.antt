@@ -12,7 +12,7 @@ pub loop-place-preserved : goal.loop-place-preserved
 loop-place-preserved g c =
     written-more g.W.Write.write_str_gives _ _ _ _ _ _ _ c.loop-place.invariant
     (listed_more c.loop-place.first c.args.values.now c.loop-place.place c.loop-place-test.true c.if-value-eq0.false)
-    (λ plain. c.in-ok-term.ensures plain refl)
+    (λ plain. c.in_ok-term.ensures plain refl)
 
 pub returns-then-first : goal.returns-then-first
 returns-then-first g c plain ok =
