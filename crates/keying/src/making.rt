@@ -73,10 +73,10 @@ fn public_row<P: RingEngine>(
     g: &[i16],
     u: &[u16; 1024],
 ) -> Result<[u16; 1024], Refusal>
-    requires engine { (degree engine.old ≡ n) × (modulus engine.old ≡ 3457) × (n ≤ 1024) }
+    requires engine { (P.degree engine.old ≡ n) × (P.modulus engine.old ≡ 3457) × (n ≤ 1024) }
     requires rows { (length g.now ≡ n) × (all_below 3457 (take n u.now) ≡ true) }
-    ensures sized { degree engine.new ≡ degree engine.old }
-    ensures modular { modulus engine.new ≡ modulus engine.old }
+    ensures sized { P.degree engine.new ≡ P.degree engine.old }
+    ensures modular { P.modulus engine.new ≡ P.modulus engine.old }
     ensures obeyed { is_ok result ≡ true }
     ensures value { IfOk result (λ h. (take n h ≡ product_mod 3457 n (reduced_row 3457 g.now) (take n u.now)) × Cut 0 n h) }
 {

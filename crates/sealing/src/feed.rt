@@ -30,10 +30,10 @@ pub fn seal<P: RingEngine>(
     message: &[u8],
     out: &mut [u8],
 ) -> Result<(), Refusal>
-    ensures sized { degree engine.new ≡ degree engine.old }
-    ensures modular { modulus engine.new ≡ modulus engine.old }
-    ensures answers { result ≡ seal_answer (degree engine.old) (modulus engine.old) width key.now noise.now message.now (length out.old) }
-    ensures writes { out.new ≡ written result (sealed (degree engine.old) width key.now noise.now message.now) out.old }
+    ensures sized { P.degree engine.new ≡ P.degree engine.old }
+    ensures modular { P.modulus engine.new ≡ P.modulus engine.old }
+    ensures answers { result ≡ seal_answer (P.degree engine.old) (P.modulus engine.old) width key.now noise.now message.now (length out.old) }
+    ensures writes { out.new ≡ written result (sealed (P.degree engine.old) width key.now noise.now message.now) out.old }
 {
     let n = engine.degree();
     let width = suited(9, 3457, n, engine.modulus(), width)?;
@@ -60,10 +60,10 @@ pub fn unseal<Q: RingEngine>(
     bytes: &[u8],
     out: &mut [u8],
 ) -> Result<(), Refusal>
-    ensures sized { degree engine.new ≡ degree engine.old }
-    ensures modular { modulus engine.new ≡ modulus engine.old }
-    ensures answers { result ≡ unseal_answer (degree engine.old) (modulus engine.old) width f.now bytes.now (length out.old) }
-    ensures writes { out.new ≡ written result (unsealed_of (degree engine.old) width f.now bytes.now) out.old }
+    ensures sized { Q.degree engine.new ≡ Q.degree engine.old }
+    ensures modular { Q.modulus engine.new ≡ Q.modulus engine.old }
+    ensures answers { result ≡ unseal_answer (Q.degree engine.old) (Q.modulus engine.old) width f.now bytes.now (length out.old) }
+    ensures writes { out.new ≡ written result (unsealed_of (Q.degree engine.old) width f.now bytes.now) out.old }
 {
     let n = engine.degree();
     let width = suited(8, 2048, n, engine.modulus(), width)?;
@@ -123,10 +123,10 @@ fn wrap_into<P: RingEngine>(
     message: &[u8],
     out: &mut [u8],
 ) -> Result<(), Refusal>
-    requires engine { (degree engine.old ≡ n) × (modulus engine.old ≡ 3457) × (n ≤ 1024) }
+    requires engine { (P.degree engine.old ≡ n) × (P.modulus engine.old ≡ 3457) × (n ≤ 1024) }
     requires rows { (all_below 3457 (take n h.now) ≡ true) × (length noise.now ≡ n) × (length out.old * 8 ≡ n * width.bits) }
-    ensures sized { degree engine.new ≡ degree engine.old }
-    ensures modular { modulus engine.new ≡ modulus engine.old }
+    ensures sized { P.degree engine.new ≡ P.degree engine.old }
+    ensures modular { P.modulus engine.new ≡ P.modulus engine.old }
     ensures obeyed { result ≡ Ok tt }
     ensures writes { out.new ≡ packed width.bits (wrap_of n width.bits (take n h.now) noise.now message.now) }
 {

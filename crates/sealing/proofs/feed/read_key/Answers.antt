@@ -7,9 +7,9 @@ pub returns : goal.returns
 returns c =
     let n = c.args.n in
     let row = c.args.h.now in
-    let new = c.unpack-key.new.out in
+    let new = c.unpack_key.new.out in
     let rest = post_of 0 (n - 0) row in
     record {
-      answers = key_answer_is n row new rest c.requires c.told-h c.unpack-key.auto.out c.unpack-key.result c.args.key.now c.unpack-key.ensures.answers;
-      writes = key_front n row new rest c.requires c.told-h c.unpack-key.auto.out c.unpack-key.result c.args.key.now c.unpack-key.ensures.writes;
+      answers = key_answer_is n row new rest c.requires c.told-h c.unpack_key.auto.out c.unpack_key.result c.args.key.now c.unpack_key.ensures.answers;
+      writes = key_front n row new rest c.requires c.told-h c.unpack_key.auto.out c.unpack_key.result c.args.key.now c.unpack_key.ensures.writes;
     }

@@ -11,15 +11,15 @@ returns g c =
     let message = c.args.message.now in
     let cut = take (n - 0) c.embed.new.out in
     let out = c.args.out.now in
-    let long : length c.in-ok-sigma.sigma ≡ 1024 = omega arith in
-    let is = wrapped-cut n w c.in-ok-sigma.sigma c.embed.new.out row message c.requires.engine.2 long c.in-ok-sigma.ensures.value c.embed.ensures in
+    let long : length c.in_ok-sigma.sigma ≡ 1024 = omega arith in
+    let is = wrapped-cut n w c.in_ok-sigma.sigma c.embed.new.out row message c.requires.engine.2 long c.in_ok-sigma.ensures.value c.embed.ensures in
     record {
       sized = c.sigma.ensures.sized;
       modular = c.sigma.ensures.modular;
       obeyed =
-          wrapped_packs n w c.bits.result cut out row message c.pack-row.result c.bits.ensures c.args.width.ok.0 c.args.width.ok.1 is c.requires.rows.2
-          c.pack-row.ensures.answers;
+          wrapped_packs n w c.bits.result cut out row message c.pack_row.result c.bits.ensures c.args.width.ok.0 c.args.width.ok.1 is c.requires.rows.2
+          c.pack_row.ensures.answers;
       writes =
-          wrapped_writes n w c.bits.result cut out row message c.pack-row.result c.bits.ensures c.args.width.ok.0 c.args.width.ok.1 is c.requires.rows.2
-          c.pack-row.ensures.answers c.pack-row.new.out c.pack-row.ensures.writes;
+          wrapped_writes n w c.bits.result cut out row message c.pack_row.result c.bits.ensures c.args.width.ok.0 c.args.width.ok.1 is c.requires.rows.2
+          c.pack_row.ensures.answers c.pack_row.new.out c.pack_row.ensures.writes;
     }

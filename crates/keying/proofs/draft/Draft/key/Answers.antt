@@ -13,15 +13,15 @@ made-self-requires g c =
     let f = c.args.f.now in
     let noise = c.args.g.now in
     let n = length f in
-    let u = take n c.inverse-of.new.u in
-    let h = c.in-ok-h.h in
-    let k = checked told f noise c.in-ok-check.field-0 c.in-ok-check.ensures in
+    let u = take n c.inverse_of.new.u in
+    let h = c.in_ok-h.h in
+    let k = checked told f noise c.in_ok-check.field-0 c.in_ok-check.ensures in
     let sizes = g.P.RingEngine.sizes field in
-    let value = c.in-ok-h.ensures.value in
+    let value = c.in_ok-h.ensures.value in
     let lg : length noise ≡ n = k.g_long ∙ sym k.f_long in
     record {
       degree = ((omega arith, omega arith), lg);
       small = (k.f_small, k.g_small);
       row = (value.1, cut_below n h (reduced_row 3457 noise) u value.0 value.1);
-      tied = ties n f noise u (take n h) (omega arith) refl lg c.in-ok-inverse-of.ensures value.0;
+      tied = ties n f noise u (take n h) (omega arith) refl lg c.in_ok-inverse_of.ensures value.0;
     }

@@ -2,5 +2,14 @@ use Rattle.std.proofs.Common.{refl, arith}
 use Rattle.keying.proofs.KeyLaws.{tied_none}
 use Rattle.keying.proofs.key.Key.unkeyed.Goals as goal
 
-pub invariant-of-result : goal.invariant-of-result
-invariant-of-result c = ((refl, omega arith), ((refl, refl), ((refl, refl), ((refl, refl), (refl, (refl, (refl, (tied_none, tt))))))))
+pub invariant_of-result : goal.invariant_of-result
+invariant_of-result c = record {
+  size = (refl, omega arith);
+  f_cut = (refl, refl);
+  g_cut = (refl, refl);
+  h_cut = (refl, refl);
+  f_small = refl;
+  g_small = refl;
+  h_below = refl;
+  tied = tied_none;
+}
