@@ -15,13 +15,13 @@ returns g c =
     let d = c.args.draft in
     let s = c.commission-station.result in
     let p = c.commission-station.ensures in
-    let q = c.carry-out.ensures in
+    let q = c.carry_out.ensures in
     let xs = c.args.exchanges.now in
     let T : Told = drafted P Q d in
     let first : Told = told_by P Q s in
     let same : first ≡ T = tells-same (ap P.degree p.field) (ap P.modulus p.field) (ap Q.degree p.binary) (ap Q.modulus p.binary) in
-    let end = shown_by c.carry-out.new.self in
-    let new = replied_of c.carry-out.new.exchanges in
+    let end = shown_by c.carry_out.new.self in
+    let new = replied_of c.carry_out.new.exchanges in
     record {
       key = q.key ∙ p.key;
       told = q.told ∙ same;

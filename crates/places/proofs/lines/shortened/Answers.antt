@@ -38,17 +38,17 @@ returns g c =
     let n = key.degree in
     let row = c.args.filled.coefficients in
     let w = c.args.filled.width.bits in
-    let two = c.in-ok-distance.ensures in
+    let two = c.in_ok-distance.ensures in
     let l : length row ≡ 1024 = search rules in
     let e : c.args.width.bits ≡ w - 1 = omega (arith, c.requires.width) in
     let halvings-are : take n c.halvings.new.out ≡ map halving (take n row) =
     ap (take n) (halvings_is row c.halvings.new.out l c.halvings.ensures) ∙ take-map halving n row in
-    let loss_is : c.root-up-loss.result ≡ root_up (farthest w (measured n (take n key.f) (map halving (take n row))) []) =
-    c.root-up-loss.ensures ∙ ap root_up (two.value ∙ ap (λ r. farthest w (measured n (take n key.f) r) []) halvings-are) in
+    let loss_is : c.root_up-loss.result ≡ root_up (farthest w (measured n (take n key.f) (map halving (take n row))) []) =
+    c.root_up-loss.ensures ∙ ap root_up (two.value ∙ ap (λ r. farthest w (measured n (take n key.f) r) []) halvings-are) in
     record {
       sized = two.sized;
       modular = two.modular;
       answers = c.quiet.ensures n
-          ∙ ap₂ (λ k r. quiet (candidate k r ((c.args.filled.allowance + c.root-up-loss.result + 1) / 2))) e (ap (take n) c.halve.ensures ∙ take-map (halved w) n row)
+          ∙ ap₂ (λ k r. quiet (candidate k r ((c.args.filled.allowance + c.root_up-loss.result + 1) / 2))) e (ap (take n) c.halve.ensures ∙ take-map (halved w) n row)
           ∙ ap (λ x. quiet (candidate (w - 1) (map (halved w) (take n row)) ((c.args.filled.allowance + x + 1) / 2))) loss_is;
     }

@@ -16,10 +16,10 @@ returns c =
     let k : n - 0 ≡ n = omega arith in
     let low : n ≤ 1024 = c.requires.0 in
     record {
-      answers = c.pack-row.ensures.answers
+      answers = c.pack_row.ensures.answers
           ∙ ap₂ (λ v i. packing.pack_row_answer v (take i row) (length old)) c.bits.ensures k
           ∙ row_answer w n (take n row) (length old) a.width.ok.0 (omega arith) c.requires.1 (omega (arith, length-take n row, l)) (take_all-below _ n row a.small);
-      writes = c.pack-row.ensures.writes
-          ∙ ap₂ (λ v i. packing.written c.pack-row.result (packed v (take i row)) old) c.bits.ensures k
-          ∙ written_same c.pack-row.result _ old;
+      writes = c.pack_row.ensures.writes
+          ∙ ap₂ (λ v i. packing.written c.pack_row.result (packed v (take i row)) old) c.bits.ensures k
+          ∙ written_same c.pack_row.result _ old;
     }

@@ -14,10 +14,10 @@ returns c =
     let low : n ≤ 1024 = key.size.1 in
     let long = key.h_cut.0 in
     record {
-      answers = c.pack-key.ensures.answers
+      answers = c.pack_key.ensures.answers
           ∙ ap (λ i. packing.pack_key_answer n (take i key.h) (length old)) k
           ∙ key_answer n (take n key.h) (length old) c.requires low key.size.0 (omega (arith, length-take n key.h, long)) (take_all-below 3457 n key.h key.h_below);
-      writes = c.pack-key.ensures.writes
-          ∙ ap (λ i. packing.written c.pack-key.result (packed 12 (take i key.h)) old) k
-          ∙ written_same c.pack-key.result _ old;
+      writes = c.pack_key.ensures.writes
+          ∙ ap (λ i. packing.written c.pack_key.result (packed 12 (take i key.h)) old) k
+          ∙ written_same c.pack_key.result _ old;
     }

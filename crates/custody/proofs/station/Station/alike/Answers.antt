@@ -9,15 +9,15 @@ message-requires g c =
     let r = ready_is key.degree _ (sym c.keyed.ensures ∙ c.if-not-keyed.false) in
     record {
       engine = (r.binary_degree ∙ r.field_degree, r.binary_modulus, key.size.1, r.some);
-      row = filled-below key.degree c.in-ok-a.a;
+      row = filled-below key.degree c.in_ok-a.a;
     }
 
 pub message-requires-2 : goal.message-requires-2
 message-requires-2 g c =
     let key = c.args.self.now.register.key in
     let r = ready_is key.degree _ (sym c.keyed.ensures ∙ c.if-not-keyed.false) in
-    let one = c.in-ok-left.ensures in
+    let one = c.in_ok-left.ensures in
     record {
       engine = (one.sized ∙ r.binary_degree ∙ r.field_degree, one.modular ∙ r.binary_modulus, key.size.1, r.some);
-      row = filled-below key.degree c.in-ok-b.b;
+      row = filled-below key.degree c.in_ok-b.b;
     }

@@ -26,7 +26,7 @@ loop-x-preserved g c =
     let xs = c.loop-x.exchanges in
     let i = c.loop-x.x-index in
     let x = get_or xs i c.x-item.result in
-    let lent = c.as-mut-slice.ensures.value in
+    let lent = c.as_mut_slice.ensures.value in
     let B = book c.loop-x.self.register in
     let ws = c.perform-answer.new.buffer in
     let next : Exchange = record { call = x.call; buffer = with_items x.buffer ws; answer = Some c.perform-answer.result } in (
@@ -34,9 +34,9 @@ loop-x-preserved g c =
       p.told ∙ inv.1,
       going_on K T (book was.register) c.args.exchanges.now i B xs inv.2 c.loop-x-test.true c.loop-x.auto.exchanges
           c.x-item.result x next _ refl refl
-          (ap Some (p.answers ∙ ap₂ (λ k t. answer k t B x.call (length c.as-mut-slice.result.now)) inv.0 inv.1 ∙ ap (λ b. answer K T B x.call (length b)) lent))
-          (with_items_is x.buffer ws (omega (arith, c.perform-answer.auto.buffer, c.as-mut-slice.ensures.len))
-          ∙ p.writes ∙ ap₂ (λ k t. buffer_after k t B x.call c.as-mut-slice.result.now) inv.0 inv.1 ∙ ap (buffer_after K T B x.call) lent)
+          (ap Some (p.answers ∙ ap₂ (λ k t. answer k t B x.call (length c.as_mut_slice.result.now)) inv.0 inv.1 ∙ ap (λ b. answer K T B x.call (length b)) lent))
+          (with_items_is x.buffer ws (omega (arith, c.perform-answer.auto.buffer, c.as_mut_slice.ensures.len))
+          ∙ p.writes ∙ ap₂ (λ k t. buffer_after k t B x.call c.as_mut_slice.result.now) inv.0 inv.1 ∙ ap (buffer_after K T B x.call) lent)
           (p.places ∙ ap₂ (λ k t. after k t B x.call) inv.0 inv.1),
     )
 

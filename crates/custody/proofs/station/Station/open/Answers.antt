@@ -9,5 +9,5 @@ decode-requires g c =
     let r = ready_is key.degree _ (sym c.keyed.ensures ∙ c.if-not-keyed.false) in
     record {
       engine = (r.binary_degree ∙ r.field_degree, r.binary_modulus, key.size.1, r.some);
-      row = filled-below key.degree c.in-ok-filled.filled;
+      row = filled-below key.degree c.in_ok-filled.filled;
     }
