@@ -9,12 +9,12 @@ returns c =
     let request = c.args.request in
     let call = c.call_of.result in
     let same = c.call_of.ensures in
-    let n = c.length-for-length.result in
-    let old = vec_items c.in-ok-buffer.buffer in
-    let zeros : old ≡ replicate {A = ℕ} n 0 = c.in-ok-buffer.ensures.items-if-clones-equal (λ y e. e) in
+    let n = c.length_for-length.result in
+    let old = vec_items c.in_ok-buffer.buffer in
+    let zeros : old ≡ replicate {A = ℕ} n 0 = c.in_ok-buffer.ensures.items_if_clones_equal (λ y e. e) in
     let r = c.exchange-answer.ensures in (
-      c.answer-of.ensures
-          ∙ asked-said p request call same c.wants-bytes-bytes.result c.exchange-answer.result.0 (vec_items c.exchange-answer.result.1) old n
-          c.wants-bytes-bytes.ensures c.length-for-length.ensures zeros r.answers r.writes,
+      c.answer_of.ensures
+          ∙ asked-said p request call same c.wants_bytes-bytes.result c.exchange-answer.result.0 (vec_items c.exchange-answer.result.1) old n
+          c.wants_bytes-bytes.ensures c.length_for-length.ensures zeros r.answers r.writes,
       asked-left p request call same _ r.post,
     )

@@ -7,15 +7,15 @@ use Rattle.session.proofs.calls.first_reply.Goals as goal
 
 pub unreachable-requires : goal.unreachable-requires
 unreachable-requires c =
-    never_silent c.carry-out.new.exchanges _ _ c.carry-out.ensures.replied (c.carry-out.auto.exchanges ∙ c.requires) c.in-None.is
+    never_silent c.carry_out.new.exchanges _ _ c.carry_out.ensures.replied (c.carry_out.auto.exchanges ∙ c.requires) c.in-None.is
 
 pub returns : goal.returns
 returns c =
-    let xs = c.carry-out.new.exchanges in
-    let r = c.carry-out.ensures in
+    let xs = c.carry_out.new.exchanges in
+    let r = c.carry_out.ensures in
     let pair : Option Answer → List ℕ → List Replied = λ a b. (a, b) ∷ [] in
     record {
       replied = ap₂ pair (sym c.in-Some.is) (ap vec_items c.replace-buffer.ensures.value)
-          ∙ sym (one-reply xs c.index-list-0.result c.index-list-0-2.result (c.carry-out.auto.exchanges ∙ c.requires)) ∙ r.replied;
-      post = moved c.args.station.now c.carry-out.new.self _ r.key r.told r.places;
+          ∙ sym (one-reply xs c.index-list-0.result c.index-list-0-2.result (c.carry_out.auto.exchanges ∙ c.requires)) ∙ r.replied;
+      post = moved c.args.station.now c.carry_out.new.self _ r.key r.told r.places;
     }

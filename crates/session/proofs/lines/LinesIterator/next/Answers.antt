@@ -19,6 +19,6 @@ pub returns : goal.returns
 returns c =
     let text = c.args.self.now.rest.now in
     record {
-      steps = taken-whole text _ _ (let ne : length text ≢ 0 = eqb-false (length text) 0 (sym c.if-is-empty.ensures) in omega arith) (λ k below. c.loop-i.invariant k (omega (arith, c.loop-i-test.false, below))) refl (take_rest text (length text) ∙ drop_all (length text) text (omega arith));
+      steps = taken-whole text _ _ (let ne : length text ≢ 0 = eqb-false (length text) 0 (sym c.if-is_empty.ensures) in omega arith) (λ k below. c.loop-i.invariant k (omega (arith, c.loop-i-test.false, below))) refl (take_rest text (length text) ∙ drop_all (length text) text (omega arith));
       goes = search rules;
     }

@@ -15,9 +15,9 @@ returns-in-Ok c =
     let words = words_left c.args.words in
     let due : ℕ → Result Asked Fault = λ n. command_of name n words in
     record {
-      replied = MatchResult-weaker c.carry-out.result c.carry-out.ensures.carried
+      replied = MatchResult-weaker c.carry_out.result c.carry_out.ensures.carried
           (λ answer x. carried c.in-Ok.command (ok_due asked_of _ c.read.result _ c.read.ensures c.in-Ok.is ∙ ap due c.degree.ensures) x) (λ _ same. same);
-      promised = c.carry-out.ensures.promised;
+      promised = c.carry_out.ensures.promised;
     }
 
 pub returns-in-Unread : goal.returns-in-Unread
