@@ -70,6 +70,6 @@ fn messages(rt: &HostRuntime, report: &mut Report) -> anyhow::Result<()> {
         exchange(heap, calls::open(0), 1)?,
     ];
     desk.ask_all(&mut exchanges);
-    let opened = exchanges[3].buffer.as_slice() == &[2];
+    let opened = exchanges[3].buffer.as_slice() == [2].as_slice();
     report.case(rt, "messages 1 and 3 joined open to 2", opened)
 }
