@@ -5,7 +5,6 @@ use lib.ListN.{get_or-map}
 use lib.Seq.{map-set, set-get_or}
 use Rattle.std.proofs.lemmas.List.{take_more, take_more_set}
 use Rattle.keying.specs.declared.key.Key.{Key}
-use Rattle.custody.specs.declared.call.Call.{Call}
 use Rattle.custody.specs.declared.call.Answer.{Answer}
 use Rattle.custody.specs.declared.exchange.Exchange.{Exchange}
 use Rattle.keying.specs.Told.{Told}
@@ -13,7 +12,7 @@ use Rattle.places.specs.Books.{Book}
 use Rattle.custody.specs.Calls.{answer, after, buffer_after}
 use Rattle.custody.specs.Ledger.{all_after}
 use Rattle.custody.specs.Exchanges.{asked_of, calls_of, replied_of}
-use Rattle.custody.specs.Promise.{Asked, given, replies}
+use Rattle.custody.specs.Promise.{given, replies}
 use Rattle.custody.proofs.Running.{run_more, reply, replies-more}
 
 pub asked_calls : (xs : List Exchange) → map (λ y. y.0) (asked_of xs) ≡ calls_of xs

@@ -1,7 +1,6 @@
 -- A list of exchanges with a station: the calls, what each was handed, and what each was answered.
-use Rattle.std.specs.Prelude.{ℕ, List, map, vec_items, Option}
+use Rattle.std.specs.Prelude.{List, map, vec_items}
 use Rattle.custody.specs.declared.call.Call.{Call}
-use Rattle.custody.specs.declared.call.Answer.{Answer}
 use Rattle.custody.specs.declared.exchange.Exchange.{Exchange}
 use Rattle.custody.specs.Promise.{Asked, Replied}
 

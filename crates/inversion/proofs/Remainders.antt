@@ -1,5 +1,5 @@
 -- The residues modulo 3457 are a field, and the remainder sequence over them.
-use Rattle.std.proofs.Common.{◌≡◌, ℕ, zero, suc, ◌-◌, List, Some, sym, ap, ◌∙◌, ap₂, arith}
+use Rattle.std.proofs.Common.{◌≡◌, ℕ, suc, ◌-◌, List, Some, sym, ap, ◌∙◌, ap₂, arith}
 use Rattle.ring.specs.Ring.{CommRing}
 use Rattle.ring.specs.Modular.{mul_mod_mod}
 use Rattle.ring.specs.Residues.{residue_eq}

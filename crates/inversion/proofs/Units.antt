@@ -1,5 +1,5 @@
 -- Rows times 1, and why an inverse is the only one.
-use Rattle.std.proofs.Common.{◌≡◌, ℕ, zero, suc, ◌<◌, List, [], ◌∷◌, length, sym, ap, ◌∙◌, ap₂, arith}
+use Rattle.std.proofs.Common.{◌≡◌, ℕ, suc, ◌<◌, List, [], ◌∷◌, length, sym, ap, ◌∙◌, ap₂, arith}
 use lib.ListN.{length-replicate}
 use Rattle.ring.specs.Ring.{CommRing}
 use Rattle.ring.specs.Rows.{plus, times, add_into, zeros, turn, product, unit}

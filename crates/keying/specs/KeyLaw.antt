@@ -1,6 +1,6 @@
 -- What every key meets, keyed or not: rows of 1024 places of which the first n count.
 -- At n = 0 all is zero, and that is the unkeyed key.
-use Rattle.std.specs.Prelude.{◌≡◌, ℕ, ◌-◌, ◌%◌, ◌≤◌, true, List, length, take, drop, replicate, ℤ}
+use Rattle.std.specs.Prelude.{◌≡◌, ℕ, ◌-◌, ◌%◌, ◌≤◌, List, length, take, drop, replicate, ℤ}
 use Rattle.ring.specs.Engines.{product_mod}
 use Rattle.wrapping.specs.Secrets.{secret, reduced_row}
 

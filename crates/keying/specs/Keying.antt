@@ -1,5 +1,5 @@
 -- When a draft can be keyed, and what its key is then.
-use Rattle.std.specs.Prelude.{◌≡◌, ℕ, Bool, true, false, cond, ◌&&◌, List, length, replicate, ℤ, pos, Ok, Err, Result, MatchResult, ◌==◌, nat_le}
+use Rattle.std.specs.Prelude.{◌≡◌, ℕ, true, cond, ◌&&◌, List, length, replicate, ℤ, pos, Ok, Err, Result, MatchResult, ◌==◌, nat_le}
 use Rattle.ring.specs.Engines.{all_below, product_mod, numbers}
 use Rattle.ring.specs.Residues.{residue_ring}
 use Rattle.ring.specs.Rows.{unit}

@@ -1,5 +1,5 @@
 -- What a register shows of its places.
-use Rattle.std.proofs.Common.{◌≡◌, ℕ, ◌<◌, ◌≤◌, cond, List, map, length, get_or, set, Some, None, Ok, Err, Option, Result, sym, refl, ap, ◌∙◌}
+use Rattle.std.proofs.Common.{◌≡◌, ℕ, ◌<◌, ◌≤◌, cond, List, length, get_or, set, None, Ok, Err, Option, Result, sym, ap, ◌∙◌}
 use lib.ListN.{length-map, get_or-map}
 use lib.Seq.{map-set}
 use Rattle.std.proofs.lemmas.List.{get_or_default}
@@ -8,7 +8,7 @@ use Rattle.std.specs.Option.{option_map}
 use Rattle.ring.specs.declared.refusal.Refusal.{Refusal}
 use Rattle.ring.specs.declared.refusal.Refusal.TheVariants.{Place}
 use Rattle.places.specs.declared.filled.Filled.{Filled}
-use Rattle.places.specs.Books.{Line, Book, at}
+use Rattle.places.specs.Books.{Line, at}
 use Rattle.places.specs.Checks.{placed}
 use Rattle.places.specs.Views.{line_of, book_of}
 

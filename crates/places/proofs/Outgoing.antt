@@ -1,5 +1,5 @@
 -- What packing answers of rows and keys that are known to fit.
-use Rattle.std.proofs.Common.{◌≡◌, ℕ, ◌+◌, ◌-◌, ◌*◌, ◌/◌, ◌%◌, ◌^◌, ◌<◌, ◌≤◌, Bool, true, false, cond, ◌&&◌, eqb, ltb, leb, ◌⊎◌, List, length, take, Ok, Err, Result, sym, refl, ap, ◌∙◌, ap₂, inl, inr, mul_assoc, arith}
+use Rattle.std.proofs.Common.{◌≡◌, ℕ, ◌*◌, ◌/◌, ◌%◌, ◌^◌, ◌<◌, ◌≤◌, true, cond, ◌&&◌, eqb, List, length, Ok, Err, Result, sym, refl, ap, ◌∙◌, ap₂, inl, inr, mul_assoc, arith}
 use native.Mathlib.Nat.{div-add-mod}
 use Rattle.std.proofs.lemmas.Bool.{cases_eq, eq-eqb, ne_eqb, le-leb}
 use Rattle.ring.specs.declared.refusal.Refusal.{Refusal}

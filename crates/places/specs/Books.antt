@@ -1,5 +1,5 @@
 -- What the eight places of a station hold, as plain lines.
-use Rattle.std.specs.Prelude.{ℕ, List, replicate, Some, None, Option, slice_index_or}
+use Rattle.std.specs.Prelude.{ℕ, List, replicate, None, Option, slice_index_or}
 
 -- what a filled place has: a width, n coefficients below 2^width, and an allowance,
 -- which bounds the length of the noise in each octet

@@ -1,7 +1,7 @@
 -- Numbers read digit by digit.
-use Rattle.std.proofs.Common.{◌≡◌, ℕ, ◌+◌, ◌<◌, ◌≤◌, true, false, cond, eqb, ltb, List, [], ◌∷◌, length, get_or, drop, Ok, Err, refl, ◌∙◌, arith}
+use Rattle.std.proofs.Common.{◌≡◌, ℕ, ◌+◌, ◌<◌, ◌≤◌, List, [], ◌∷◌, length, get_or, drop, Ok, arith}
 use Rattle.std.proofs.lemmas.List.{at_drop_more, at_drop_all}
-use Rattle.reading.specs.Numerals.{limited, one_more, more_digits, digits_of}
+use Rattle.reading.specs.Numerals.{one_more, more_digits, digits_of}
 use Rattle.reading.specs.Steps.{then}
 use Rattle.reading.proofs.Stepping.{then_ok}
 

@@ -1,5 +1,5 @@
 -- Bytes read pair by pair.
-use Rattle.std.proofs.Common.{◌≡◌, ℕ, ◌+◌, ◌*◌, ◌<◌, ◌≤◌, List, [], ◌∷◌, ◌++◌, length, get_or, drop, Ok, Err, sym, refl, ap, ◌∙◌, arith}
+use Rattle.std.proofs.Common.{◌≡◌, ℕ, ◌+◌, ◌*◌, ◌<◌, ◌≤◌, List, [], ◌∷◌, length, get_or, drop, Ok, arith}
 use Rattle.std.proofs.lemmas.List.{drop_more, drop_all}
 use Rattle.reading.specs.Hex.{byte_of, pairs}
 use Rattle.reading.specs.Steps.{then}

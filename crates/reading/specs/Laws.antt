@@ -1,5 +1,5 @@
 -- What is written can be read.
-use Rattle.std.specs.Prelude.{◌≡◌, ℕ, ◌^◌, ◌<◌, ◌≤◌, pos, Ok, decimal}
+use Rattle.std.specs.Prelude.{◌≡◌, ℕ, ◌^◌, ◌<◌, pos, Ok, decimal}
 use Rattle.reading.specs.Numerals.{number_of, width_of, signed_of}
 
 -- a number, as it is written, is read as it was

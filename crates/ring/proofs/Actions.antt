@@ -2,7 +2,6 @@
 use Rattle.std.proofs.Common.{◌≡◌, ℕ, zero, suc, ◌<◌, List, [], ◌∷◌, ◌++◌, length, sym, refl, ap, ◌∙◌, ap₂, arith}
 use Rattle.ring.specs.Ring.{CommRing}
 use Rattle.ring.specs.Rows.{plus, times, zeros, turn, product}
-use Rattle.ring.proofs.Scalars as s
 use Rattle.ring.proofs.RowLaws as r
 use Rattle.ring.proofs.Turns as t
 use Rattle.ring.proofs.Products as p

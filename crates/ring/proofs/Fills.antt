@@ -1,5 +1,5 @@
 -- A row filled place by place with what a function makes of another row.
-use Rattle.std.proofs.Common.{◌≡◌, ℕ, ◌+◌, ◌<◌, List, map, length, get_or, set, sym, refl, ap, ◌∙◌, arith}
+use Rattle.std.proofs.Common.{◌≡◌, ℕ, ◌+◌, ◌<◌, List, map, length, get_or, set, sym, ap, ◌∙◌, arith}
 use lib.ListN.{length-map, get_or-map}
 use Rattle.std.proofs.lemmas.List.{get_or_default}
 use Rattle.ring.proofs.Mixed.{mixed, mixed-set}

@@ -1,5 +1,5 @@
 -- A map of rings takes products of rows to products of rows.
-use Rattle.std.proofs.Common.{◌≡◌, ℕ, zero, suc, ◌-◌, ◌/◌, List, [], ◌∷◌, map, length, get_or, take, set, replicate, sym, refl, ap, ◌∙◌, ap₂}
+use Rattle.std.proofs.Common.{◌≡◌, ℕ, zero, suc, ◌-◌, ◌/◌, List, [], ◌∷◌, map, get_or, take, set, sym, refl, ap, ◌∙◌, ap₂}
 use lib.ListN.{get_or-map}
 use lib.Seq.{map-set}
 use Rattle.ring.specs.Ring.{CommRing}

@@ -1,10 +1,9 @@
 -- The product of rows: linear in both, commutative, associative, and the one that the turn fixes.
-use Rattle.std.proofs.Common.{◌≡◌, ℕ, zero, suc, ◌+◌, ◌-◌, ◌/◌, ◌<◌, ◌≤◌, List, [], ◌∷◌, ◌++◌, length, get_or, take, set, replicate, sym, refl, ap, ◌∙◌, ap₂, append-nil, arith, length-append, length-set, length-take, get_or-append-add}
+use Rattle.std.proofs.Common.{◌≡◌, ℕ, zero, suc, ◌+◌, ◌-◌, ◌<◌, List, [], ◌∷◌, ◌++◌, length, get_or, take, sym, refl, ap, ◌∙◌, ap₂, append-nil, arith, length-append, get_or-append-add}
 use lib.ListN.{length-replicate, get_or-replicate}
 use lib.Seq.{take-append-add}
 use Rattle.ring.specs.Ring.{CommRing}
-use Rattle.ring.specs.Rows.{plus, times, zeros, bump, top, turn, product, unit}
-use Rattle.ring.proofs.Scalars as s
+use Rattle.ring.specs.Rows.{plus, times, zeros, turn, product, unit}
 use Rattle.ring.proofs.RowLaws as r
 use Rattle.ring.proofs.Turns as t
 

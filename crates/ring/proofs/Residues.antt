@@ -1,5 +1,5 @@
 -- The image of a number among the residues is its residue.
-use Rattle.std.proofs.Common.{◌≡◌, ℕ, zero, suc, ◌+◌, ◌%◌, sym, refl, ap, ◌∙◌, add-one}
+use Rattle.std.proofs.Common.{◌≡◌, ℕ, zero, suc, ◌+◌, ◌%◌, refl, ap, ◌∙◌, add-one}
 use Rattle.ring.specs.Images.{count}
 use Rattle.ring.specs.Modular.{modular}
 use Rattle.ring.specs.Residues.{reduced, residue_ring, same}

@@ -1,8 +1,7 @@
 -- Rows over a commutative ring: what their sums, multiples, turns and products keep.
-use Rattle.std.proofs.Common.{◌≡◌, ℕ, zero, suc, ◌+◌, ◌-◌, ◌/◌, ◌<◌, ◌≤◌, List, [], ◌∷◌, ◌++◌, length, get_or, take, set, replicate, sym, refl, ap, ◌∙◌, ap₂, arith, length-set, length-take}
-use lib.ListN.{length-replicate}
+use Rattle.std.proofs.Common.{◌≡◌, ℕ, zero, suc, List, [], ◌∷◌, length, sym, refl, ap, ◌∙◌, ap₂, arith}
 use Rattle.ring.specs.Ring.{CommRing}
-use Rattle.ring.specs.Rows.{plus, times, zeros, bump, top, turn, product, unit}
+use Rattle.ring.specs.Rows.{plus, times, zeros}
 use Rattle.ring.proofs.Scalars as s
 
 module _ {C : Type 0} (R : CommRing C) where

@@ -1,5 +1,5 @@
 -- What the laws of a commutative ring give.
-use Rattle.std.proofs.Common.{◌≡◌, sym, refl, ap, ◌∙◌}
+use Rattle.std.proofs.Common.{◌≡◌, sym, ap, ◌∙◌}
 use Rattle.ring.specs.Ring.{CommRing}
 
 module _ {C : Type 0} (R : CommRing C) where

@@ -1,10 +1,7 @@
 -- The laws of the product, put together.
-use Rattle.std.proofs.Common.{◌≡◌, ℕ, ◌<◌, List, map, ℤ}
-use Rattle.ring.specs.Ring.{CommRing, RingMap}
-use Rattle.ring.specs.Rows.{product}
+use Rattle.ring.specs.Ring.{CommRing}
 use Rattle.ring.specs.Integers.{integers}
-use Rattle.ring.specs.Images.{image}
-use Rattle.ring.specs.Laws.{Keeps, ProductLaws, Laws, Carries}
+use Rattle.ring.specs.Laws.{Laws, Carries}
 use Rattle.ring.proofs.Products as p
 use Rattle.ring.proofs.Homs.{map-product}
 use Rattle.ring.proofs.Images.{image-map}

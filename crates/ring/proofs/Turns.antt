@@ -1,11 +1,9 @@
 -- The turn of a row is linear, and keeps the length.
-use Rattle.std.proofs.Common.{◌≡◌, ℕ, zero, suc, ◌+◌, ◌-◌, ◌/◌, ◌<◌, ◌≤◌, List, [], ◌∷◌, ◌++◌, length, get_or, take, set, replicate, sym, refl, ap, ◌∙◌, ap₂, sub-one, arith, length-set, length-take}
-use lib.ListN.{length-replicate}
+use Rattle.std.proofs.Common.{◌≡◌, ℕ, zero, suc, ◌-◌, ◌/◌, ◌<◌, List, [], ◌∷◌, length, get_or, take, set, sym, refl, ap, ◌∙◌, ap₂, arith, length-set, length-take}
 use lib.Seq.{set-get_or}
 use Rattle.ring.specs.Ring.{CommRing}
-use Rattle.ring.specs.Rows.{plus, times, zeros, bump, top, turn, product, unit}
+use Rattle.ring.specs.Rows.{plus, times, bump, top, turn}
 use Rattle.ring.proofs.Scalars as s
-use Rattle.ring.proofs.RowLaws as r
 
 module _ {C : Type 0} (R : CommRing C) where
   pub slice_index_or-plus : (a b : List C) (i : ℕ) → length a ≡ length b → get_or (plus R a b) i R.zero ≡ R.add (get_or a i R.zero) (get_or b i R.zero)

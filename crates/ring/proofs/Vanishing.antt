@@ -1,5 +1,5 @@
 -- x^n - x^(n/2) + 1 acts as zero on every row of n.
-use Rattle.std.proofs.Common.{◌≡◌, ℕ, zero, suc, ◌+◌, ◌-◌, ◌/◌, ◌<◌, List, [], ◌∷◌, ◌++◌, length, get_or, take, set, replicate, sym, refl, ap, ◌∙◌, ap₂, append-nil, arith, length-append, length-set, get_or-append-add}
+use Rattle.std.proofs.Common.{◌≡◌, ℕ, zero, suc, ◌-◌, ◌/◌, ◌<◌, List, [], ◌∷◌, ◌++◌, length, get_or, take, sym, ap, ◌∙◌, ap₂, append-nil, arith, length-append, length-set, get_or-append-add}
 use lib.ListN.{length-replicate}
 use lib.Seq.{take-append-add}
 use Rattle.ring.specs.Ring.{CommRing}

@@ -1,12 +1,12 @@
 -- An engine's product is the whole-number product, reduced.
-use Rattle.std.proofs.Common.{◌≡◌, ℕ, suc, ◌+◌, ◌-◌, ◌*◌, ◌/◌, ◌%◌, ◌<◌, ◌≤◌, List, [], ◌∷◌, map, ℤ, pos, negsuc, sym, refl, ap, ◌∙◌, ap₂, mod-lt, mod-eq_of_lt, arith}
+use Rattle.std.proofs.Common.{◌≡◌, ℕ, suc, ◌+◌, ◌-◌, ◌*◌, ◌/◌, ◌%◌, ◌<◌, List, [], ◌∷◌, map, ℤ, pos, negsuc, sym, refl, ap, ◌∙◌, ap₂, mod-lt, mod-eq_of_lt, arith}
 use mathlib.Core.List.{map-map}
 use native.Mathlib.Nat.{mod-mod, mul-mod_right, div-add-mod, zero-mod}
 use Rattle.ring.specs.Rows.{product}
 use Rattle.ring.specs.Images.{count, image}
 use Rattle.ring.specs.Integers.{integers}
 use Rattle.ring.specs.Modular.{modular}
-use Rattle.ring.specs.Residues.{reduced, residue_ring, same, residue_eq}
+use Rattle.ring.specs.Residues.{reduced, residue_ring, same}
 use Rattle.ring.specs.Engines.{product_to, residues, numbers}
 use Rattle.ring.specs.Wholes.{residue, Wholes}
 use Rattle.ring.proofs.Scalars.{neg_unique}

@@ -1,5 +1,5 @@
 -- What a ring engine of degree n and modulus m answers to two operands, and what its buffer holds then.
-use Rattle.std.specs.Prelude.{◌≡◌, ℕ, ◌-◌, ◌%◌, ◌≤◌, Bool, true, false, cond, ◌&&◌, ◌||◌, List, [], ◌∷◌, map, length, Ok, Err, Result, ◌==◌, nat_le, nat_lt}
+use Rattle.std.specs.Prelude.{◌≡◌, ℕ, ◌-◌, ◌%◌, ◌≤◌, Bool, true, cond, ◌&&◌, ◌||◌, List, [], ◌∷◌, map, length, Ok, Err, Result, ◌==◌, nat_le, nat_lt}
 use Rattle.ring.specs.Rows.{product}
 use Rattle.ring.specs.Residues.{reduced, residue_ring}
 use Rattle.ring.specs.declared.residue.Residue.{Residue}

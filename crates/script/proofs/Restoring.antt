@@ -1,5 +1,5 @@
 -- A row that is written is read as it was.
-use Rattle.std.proofs.Common.{◌≡◌, ℕ, zero, suc, ◌+◌, ◌%◌, ◌^◌, ◌<◌, ◌≤◌, Bool, true, false, cond, eqb, ltb, List, [], ◌∷◌, ◌++◌, map, length, set, replicate, ℤ, pos, Ok, Err, codes, decimal, sym, refl, ap, ◌∙◌, append_assoc, append-nil, arith, length-append, ltb-true, ne_eqb}
+use Rattle.std.proofs.Common.{◌≡◌, ℕ, zero, suc, ◌+◌, ◌%◌, ◌^◌, ◌<◌, ◌≤◌, Bool, true, false, cond, eqb, ltb, List, [], ◌∷◌, ◌++◌, map, length, replicate, ℤ, pos, Ok, decimal, refl, ap, ◌∙◌, append_assoc, append-nil, arith, length-append, ltb-true, ne_eqb}
 use Rattle.std.proofs.lemmas.Fmt.{decimal_by_steps}
 use Rattle.std.proofs.lemmas.List.{set_at}
 use Rattle.std.proofs.lemmas.Bool.{and_parts, lt-ltb, le-ltb}
@@ -8,7 +8,6 @@ use Rattle.ring.specs.Engines.{all_below}
 use Rattle.reading.specs.Coefficients.{natural}
 use Rattle.reading.specs.Cuts.{cuts, parts_of}
 use Rattle.reading.specs.Rows.{comma, colon, slash, term_of, terms_of, body_of, each, row_by}
-use Rattle.reading.specs.Steps.{then}
 use Rattle.reading.proofs.Rereading.{numbers_return}
 use Rattle.script.specs.Written.{term_text, terms, listed, row_text}
 use Rattle.script.proofs.Parting.{Lacks, lacks_append, lacks_decimal, split_lacking, split_cut, parts_lacking, parts_cut}

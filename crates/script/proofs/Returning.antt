@@ -1,10 +1,9 @@
 -- Bytes that are written are read as they were.
-use Rattle.std.proofs.Common.{◌≡◌, ℕ, ◌+◌, ◌*◌, ◌/◌, ◌%◌, ◌<◌, Bool, true, false, ◌&&◌, eqb, ltb, List, [], ◌∷◌, length, Ok, codes, refl, ap, ◌∙◌, arith, ltb-true, eq-eqb}
+use Rattle.std.proofs.Common.{◌≡◌, ℕ, ◌+◌, ◌*◌, ◌/◌, ◌%◌, ◌<◌, Bool, true, false, ◌&&◌, eqb, ltb, List, [], ◌∷◌, length, Ok, codes, refl, ap, arith, ltb-true, eq-eqb}
 use Rattle.std.proofs.lemmas.Bool.{and_parts}
 use Rattle.std.specs.Str.{bytes_eq}
 use Rattle.ring.specs.Engines.{all_below}
 use Rattle.reading.specs.Hex.{digit_value, byte_of, pairs, bytes_of}
-use Rattle.reading.specs.Steps.{then}
 use Rattle.script.specs.Written.{digit_code, hex_of}
 
 digit_returns : (value : ℕ) → value < 16 → digit_value (digit_code value) ≡ Ok value

@@ -1,5 +1,5 @@
 -- The tasks away from drafts and stations, read from the words after their names.
-use Rattle.std.specs.Prelude.{ℕ, ◌/◌, Ok}
+use Rattle.std.specs.Prelude.{◌/◌, Ok}
 use Rattle.reading.specs.Arguments.{Reader, argument, length_or, next, known}
 use Rattle.reading.specs.Coefficients.{natural, whole}
 use Rattle.reading.specs.Hex.{bytes_of}

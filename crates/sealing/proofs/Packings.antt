@@ -1,5 +1,5 @@
 -- Rows and their bytes, where degrees are multiples of sixteen.
-use Rattle.std.proofs.Common.{◌≡◌, ℕ, ◌-◌, ◌*◌, ◌/◌, ◌%◌, ◌^◌, ◌≤◌, true, ◌&&◌, ltb, List, [], ◌∷◌, ◌++◌, length, take, Ok, Result, sym, refl, ap, ◌∙◌, ap₂, mul-div_cancel, arith, pow_mono}
+use Rattle.std.proofs.Common.{◌≡◌, ℕ, ◌-◌, ◌*◌, ◌/◌, ◌%◌, ◌^◌, ◌≤◌, true, List, ◌++◌, length, take, Ok, Result, sym, ap, ◌∙◌, ap₂, mul-div_cancel, arith, pow_mono}
 use native.Mathlib.Nat.{div-add-mod}
 use Rattle.std.proofs.lemmas.List.{length-take-le, take_at}
 use Rattle.std.proofs.lemmas.Bool.Decides.{nat_tests}

@@ -1,5 +1,5 @@
 -- What is said to a request is what the station answers to its call.
-use Rattle.std.proofs.Common.{◌≡◌, ℕ, Bool, true, false, List, length, replicate, Some, None, Ok, Err, sym, refl, ap, ◌∙◌, ap₂}
+use Rattle.std.proofs.Common.{◌≡◌, ℕ, Bool, true, false, List, length, replicate, Some, None, Ok, Err, refl, ap, ◌∙◌, ap₂}
 use lib.ListN.{length-replicate}
 use Rattle.packing.specs.Digits.{packed}
 use Rattle.keying.specs.Keys.{h_of}
@@ -17,7 +17,7 @@ use Rattle.session.specs.Hands.{Post}
 use Rattle.session.specs.Posts as plain
 use Rattle.session.specs.Posts.{Plain, answer_at, buffer_at, plain_call, post_at}
 use Rattle.session.specs.Requests.{answered, buffer_length, compared, plain_request, post_after, right_length, told_line, wants_bytes}
-use Rattle.session.specs.Said.{Said, given, obeyed, said_as, shown}
+use Rattle.session.specs.Said.{given, obeyed, said_as, shown}
 use Rattle.session.proofs.Replies.{hand-right}
 
 -- a buffer of zeros

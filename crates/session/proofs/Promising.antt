@@ -5,7 +5,7 @@ use Rattle.custody.specs.declared.call.Call.{Call}
 use Rattle.custody.specs.declared.call.Call.TheVariants as calls
 use Rattle.custody.specs.Calls.{after}
 use Rattle.custody.specs.Ledger.{all_after}
-use Rattle.custody.specs.Promise.{Asked, Kept, given, replies}
+use Rattle.custody.specs.Promise.{Asked, given, replies}
 use Rattle.custody.proofs.Running.{kept_start, run_keeps}
 use Rattle.keying.specs.declared.key.Key.{Key}
 use Rattle.keying.specs.Told.{Told}

@@ -1,5 +1,5 @@
 -- A line that is answered is spoken for by its first word.
-use Rattle.std.proofs.Common.{◌≡◌, ℕ, true, false, List, [], ◌∷◌, is_err, Some, None, Ok, Err, Result, unwrap_or, sym, refl, ap, ◌∙◌, subst, arith, MatchResult}
+use Rattle.std.proofs.Common.{◌≡◌, ℕ, false, List, [], ◌∷◌, is_err, Some, Ok, Err, Result, unwrap_or, sym, ap, ◌∙◌, subst, arith, MatchResult}
 use Rattle.std.proofs.lemmas.Bool.{true≢false}
 use Rattle.reading.specs.Cuts.{first, others}
 use Rattle.session.specs.declared.reply.Reply.{Reply}

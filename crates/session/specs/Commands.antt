@@ -1,5 +1,5 @@
 -- What each command of a script is answered, and what the session has at hand afterwards.
-use Rattle.std.specs.Prelude.{◌≡◌, ℕ, List, ℤ, Some, None, Ok, Err, vec_items, Option, Result, MatchOption}
+use Rattle.std.specs.Prelude.{◌≡◌, ℕ, List, ℤ, Some, None, Ok, Err, vec_items, Result, MatchOption}
 use Rattle.ring.specs.declared.refusal.Refusal.{Refusal}
 use Rattle.keying.specs.declared.key.Key.{Key}
 use Rattle.keying.specs.Keying.{Keying, Unkeyed}

@@ -1,5 +1,5 @@
 -- What a session has at hand between two lines: a draft, a station, or neither.
-use Rattle.std.specs.Prelude.{ℕ, List, Option}
+use Rattle.std.specs.Prelude.{ℕ, Option}
 use Rattle.std.specs.Option.{option_map}
 use Rattle.ring.specs.declared.counting.Counting.{Counting}
 use Rattle.ring.specs.declared.turning.Turning.{Turning}

@@ -6,7 +6,7 @@ use Rattle.script.specs.Shown.{answer_shown}
 use Rattle.session.specs.declared.reply.Reply.{Reply}
 use Rattle.session.specs.Commands.{Only, Replied}
 use Rattle.session.specs.Hands.{Hand}
-use Rattle.session.specs.Said.{Said, said as said_of, unread}
+use Rattle.session.specs.Said.{said as said_of, unread}
 
 -- a word that begins with a hash begins a comment
 abbrev pub hashed : List ℕ → Bool

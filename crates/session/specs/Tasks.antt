@@ -1,5 +1,5 @@
 -- What a task away from drafts and stations is answered.
-use Rattle.std.specs.Prelude.{ℕ, List, vec_items}
+use Rattle.std.specs.Prelude.{vec_items}
 use Rattle.ring.specs.Engines.{engine_answer, product_mod}
 use Rattle.packing.specs.Answers.{pack_key_answer, unpack_key_answer}
 use Rattle.packing.specs.Digits.{packed, unpacked}

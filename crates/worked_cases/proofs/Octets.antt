@@ -1,5 +1,5 @@
 -- A word, and an octet half way between two.
-use Rattle.std.proofs.Common.{◌≡◌, ℕ, List, [], ◌∷◌, ℤ, pos, refl}
+use Rattle.std.proofs.Common.{◌≡◌, [], ◌∷◌, pos, refl}
 use Rattle.code.specs.Words.{word}
 use Rattle.code.specs.Distances.{distance, nearest, first_least}
 use Rattle.code.specs.Folds.{fold, rest}

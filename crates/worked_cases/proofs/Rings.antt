@@ -1,5 +1,5 @@
 -- Products that are computed.
-use Rattle.std.proofs.Common.{◌≡◌, ℕ, List, [], ◌∷◌, ℤ, pos, refl}
+use Rattle.std.proofs.Common.{◌≡◌, [], ◌∷◌, pos, refl}
 use Rattle.ring.specs.Engines.{product_mod, product_to}
 use Rattle.ring.specs.Rows.{product, plus, times, turn, bump, unit}
 use Rattle.wrapping.specs.Secrets.{secret, reduced_row}

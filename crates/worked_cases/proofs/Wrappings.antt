@@ -1,5 +1,5 @@
 -- Deposits and a trim under two keys.
-use Rattle.std.proofs.Common.{◌≡◌, ℕ, ◌*◌, ◌<◌, ◌≤◌, cond, List, [], ◌∷◌, length, set, replicate, ℤ, pos, Some, Ok, Err, refl, ap, ◌∙◌, mul-le-mul, arith}
+use Rattle.std.proofs.Common.{◌≡◌, ℕ, ◌*◌, ◌<◌, ◌≤◌, cond, List, [], ◌∷◌, length, set, replicate, ℤ, Some, Ok, Err, refl, ap, ◌∙◌, mul-le-mul, arith}
 use Rattle.ring.specs.Rows.{product, plus, times, turn, bump}
 use Rattle.ring.specs.declared.refusal.Refusal.TheVariants.{TooNoisy, Unkeyed}
 use Rattle.code.specs.Words.{word}

@@ -1,5 +1,5 @@
 -- What noise does: laws of wrappings under a key in which h times f is g.
-use Rattle.std.specs.Prelude.{◌≡◌, ℕ, ◌+◌, ◌-◌, ◌*◌, ◌/◌, ◌^◌, ◌<◌, ◌≤◌, true, List, map, length, ℤ}
+use Rattle.std.specs.Prelude.{◌≡◌, ℕ, ◌+◌, ◌-◌, ◌*◌, ◌<◌, ◌≤◌, true, List, map, length, ℤ}
 use Rattle.ring.specs.Engines.{all_below}
 use Rattle.code.specs.Widths.{radius}
 use Rattle.code.specs.Rows.{farthest, decoded}

@@ -1,9 +1,8 @@
 -- How a message is wrapped under a public row h of degree n, at a width w, with noise r.
-use Rattle.std.specs.Prelude.{ℕ, ◌+◌, ◌*◌, ◌/◌, ◌%◌, ◌^◌, List, map, ℤ, pos, slice_index}
+use Rattle.std.specs.Prelude.{ℕ, ◌+◌, ◌*◌, ◌/◌, ◌%◌, ◌^◌, List, map, ℤ, slice_index}
 use Rattle.std.specs.List.{range_with_len}
 use Rattle.ring.specs.Rows.{product}
 use Rattle.ring.specs.Integers.{integers}
-use Rattle.ring.specs.Wholes.{residue}
 use Rattle.code.specs.Widths.{radius}
 use Rattle.code.specs.Words.{word}
 use Rattle.code.specs.Messages.{number}

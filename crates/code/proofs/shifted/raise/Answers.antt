@@ -1,4 +1,4 @@
-use Rattle.std.proofs.Common.{get_or, ℤ, pos, ◌+ℤ◌, w32, SFits, rules}
+use Rattle.std.proofs.Common.{get_or, pos, ◌+ℤ◌, w32, SFits, rules}
 use Rattle.std.specs.Int.{int_wrap}
 use Rattle.std.proofs.lemmas.Int.{to_z-of_z, wrapping_add_is}
 use Rattle.code.proofs.Shifts.{at_odd_is, below8}

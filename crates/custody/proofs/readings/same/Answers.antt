@@ -1,4 +1,4 @@
-use Rattle.std.proofs.Common.{◌≡◌, ◌<◌, ◌≤◌, length, get_or, take, sym, ◌∙◌, arith, length-take, get_or-take}
+use Rattle.std.proofs.Common.{take, sym, ◌∙◌, arith, length-take, get_or-take}
 use Rattle.custody.proofs.SameBytes.{same_stops, same_goes, same_ends}
 use Rattle.custody.proofs.readings.same.Goals as goal
 

@@ -1,4 +1,4 @@
-use Rattle.std.proofs.Common.{◌≡◌, ℕ, ◌^◌, ◌≤◌, length, take, sym, ap, ◌∙◌, ap₂, arith, pow_mono, rules}
+use Rattle.std.proofs.Common.{◌≡◌, ◌^◌, ◌≤◌, length, take, ap, ◌∙◌, ap₂, arith, pow_mono, rules}
 use Rattle.code.specs.Roots.{root_up}
 use Rattle.code.specs.Rows.{farthest}
 use Rattle.wrapping.specs.Wraps.{embedded_row, measured, sigma, allowance}

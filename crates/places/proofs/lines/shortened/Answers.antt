@@ -1,4 +1,4 @@
-use Rattle.std.proofs.Common.{◌≡◌, ℕ, ◌+◌, ◌-◌, ◌/◌, ◌^◌, ◌≤◌, true, [], map, length, take, sym, ap, ◌∙◌, ap₂, arith, lit≤, rules}
+use Rattle.std.proofs.Common.{◌≡◌, ◌+◌, ◌-◌, ◌/◌, ◌^◌, [], map, length, take, ap, ◌∙◌, ap₂, arith, lit≤, rules}
 use Rattle.std.proofs.lemmas.List.{take-map}
 use Rattle.ring.specs.Engines.{all_below}
 use Rattle.code.specs.Roots.{root_up}

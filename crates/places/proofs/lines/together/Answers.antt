@@ -1,6 +1,5 @@
-use Rattle.std.proofs.Common.{◌≡◌, ◌+◌, ◌^◌, true, length, take, sym, ap, ◌∙◌, rules}
+use Rattle.std.proofs.Common.{◌+◌, ◌^◌, take, ap, ◌∙◌}
 use Rattle.ring.specs.Engines.{all_below}
-use Rattle.wrapping.specs.Joins.{joined}
 use Rattle.places.specs.Lines.{candidate}
 use Rattle.places.specs.Lines.{quiet}
 use Rattle.places.proofs.RowParts.{joined-below, take-joined}

@@ -1,4 +1,4 @@
-use Rattle.std.proofs.Common.{◌≡◌, ℕ, ◌-◌, ◌≤◌, length, take, ap, ◌∙◌, ap₂, arith, length-take, rules}
+use Rattle.std.proofs.Common.{◌≡◌, ◌-◌, ◌≤◌, length, take, ◌∙◌, ap₂, arith, length-take, rules}
 use Rattle.packing.specs.Digits.{packed}
 use Rattle.packing.specs.Answers as packing
 use Rattle.places.proofs.Outgoing.{row_answer, written_same}

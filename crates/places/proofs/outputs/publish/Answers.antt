@@ -1,4 +1,4 @@
-use Rattle.std.proofs.Common.{◌≡◌, ℕ, ◌-◌, ◌≤◌, length, take, ap, ◌∙◌, arith, length-take}
+use Rattle.std.proofs.Common.{◌≡◌, ◌-◌, ◌≤◌, length, take, ap, ◌∙◌, arith, length-take}
 use Rattle.packing.specs.Digits.{packed}
 use Rattle.packing.specs.Answers as packing
 use Rattle.places.proofs.Outgoing.{key_answer, written_same}

@@ -1,4 +1,4 @@
-use Rattle.std.proofs.Common.{◌≡◌, ◌+◌, ◌*◌, drop, vec_items, sym, ◌∙◌, inr, append-nil, arith}
+use Rattle.std.proofs.Common.{◌+◌, ◌*◌, drop, vec_items, inr, append-nil, arith}
 use Rattle.reading.specs.Hex.{pairs}
 use Rattle.reading.proofs.Pairing.{pairs-more, pairs-done}
 use Rattle.reading.proofs.Stepping.{handed_on, seen_push}

@@ -1,4 +1,4 @@
-use Rattle.std.proofs.Common.{sym, ◌∙◌, arith}
+use Rattle.std.proofs.Common.{arith}
 use Rattle.reading.proofs.Stepping.{handed_on}
 use Rattle.reading.proofs.Counting.{digits_more, digits-done}
 use Rattle.reading.proofs.numbers.digits.Goals as goal

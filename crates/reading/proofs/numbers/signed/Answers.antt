@@ -1,4 +1,4 @@
-use Rattle.std.proofs.Common.{◌≡◌, ◌≤◌, pos, sym, arith, w32, to_z}
+use Rattle.std.proofs.Common.{◌≡◌, pos, sym, arith, w32, to_z}
 use Rattle.std.proofs.lemmas.Int.{ints}
 use Rattle.reading.proofs.Counting.{digits_within}
 use Rattle.reading.proofs.numbers.signed.Goals as goal

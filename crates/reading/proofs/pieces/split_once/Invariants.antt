@@ -1,4 +1,3 @@
-use Rattle.std.proofs.Common.{◌≡◌}
 use Rattle.reading.specs.Cuts.{cuts}
 use Rattle.reading.proofs.Cutting.{Whole}
 use Rattle.reading.proofs.pieces.split_once.Given as goal

@@ -1,4 +1,4 @@
-use Rattle.std.proofs.Common.{drop, sym, ap, ◌∙◌, arith, drop_of_length-le}
+use Rattle.std.proofs.Common.{sym, ap, ◌∙◌, drop_of_length-le}
 use Rattle.ring.specs.Engines.{all_below}
 use Rattle.ring.proofs.Below.{below_stops, below_goes}
 use Rattle.ring.proofs.engine.below.Goals as goal

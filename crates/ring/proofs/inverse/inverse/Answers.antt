@@ -1,4 +1,4 @@
-use Rattle.std.proofs.Common.{◌≡◌, ◌*◌, ◌%◌, sym, ap, ◌∙◌}
+use Rattle.std.proofs.Common.{◌*◌, ◌%◌, ap, ◌∙◌}
 use Rattle.ring.specs.Residues.{reduced, residue_eq}
 use Rattle.ring.proofs.Inverses.{power_inverts}
 use Rattle.ring.proofs.inverse.inverse.Goals as goal

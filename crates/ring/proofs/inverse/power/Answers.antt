@@ -1,4 +1,4 @@
-use Rattle.std.proofs.Common.{◌≡◌, ◌*◌, ◌%◌, true, false, sym, ap, ◌∙◌}
+use Rattle.std.proofs.Common.{◌*◌, ◌%◌, true, false, sym, ap, ◌∙◌}
 use Rattle.ring.specs.Powers.{climb, exponent}
 use Rattle.ring.proofs.Inverses.{climb-more, climb-all}
 use Rattle.ring.proofs.inverse.power.Goals as goal

@@ -1,6 +1,6 @@
 use Rattle.std.proofs.Common.{◌≡◌}
 use Rattle.ring.proofs.Mixed.{mixed}
-use Rattle.ring.specs.Engines.{residues, numbers}
+use Rattle.ring.specs.Engines.{numbers}
 use Rattle.ring.proofs.numbers.store.Given as goal
 
 abbrev pub invariant-loop-i : goal.invariant-loop-i

@@ -1,4 +1,4 @@
-use Rattle.std.proofs.Common.{sym, ◌∙◌, arith}
+use Rattle.std.proofs.Common.{◌∙◌, arith}
 use Rattle.ring.proofs.Mixed.{mixed_none}
 use Rattle.ring.proofs.Steps.{add_made, add_into-done}
 use Rattle.ring.proofs.rows.add_multiple.Goals as goal

@@ -1,4 +1,4 @@
-use Rattle.std.proofs.Common.{◌≡◌, zero, ◌≤◌, length, drop, sym, refl, ap, ◌∙◌, ap₂, arith}
+use Rattle.std.proofs.Common.{◌≡◌, length, drop, sym, refl, ap, ◌∙◌, ap₂, arith}
 use lib.ListN.{length-replicate}
 use lib.Seq.{drop-length}
 use Rattle.ring.specs.Rows.{zeros, product}

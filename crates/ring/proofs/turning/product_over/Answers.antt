@@ -1,4 +1,4 @@
-use Rattle.std.proofs.Common.{◌≡◌, length, ap, ◌∙◌, ap₂}
+use Rattle.std.proofs.Common.{length, ap, ◌∙◌, ap₂}
 use Rattle.ring.specs.Rows.{product}
 use Rattle.ring.specs.Residues.{residue_ring}
 use Rattle.ring.specs.Engines.{numbers, product_to}

@@ -1,4 +1,4 @@
-use Rattle.std.proofs.Common.{true, [], codes, refl, ◌∙◌}
+use Rattle.std.proofs.Common.{[], codes, refl, ◌∙◌}
 use Rattle.script.proofs.Listing.{listed_skip, listed_more, listed-done}
 use Rattle.script.proofs.Writing.{written-more, written_same, written_all}
 use Rattle.script.proofs.written.row.Goals as goal

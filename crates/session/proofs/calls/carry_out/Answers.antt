@@ -1,4 +1,4 @@
-use Rattle.std.proofs.Common.{◌≡◌, ℕ, List, replicate, vec_items, ◌∙◌}
+use Rattle.std.proofs.Common.{◌≡◌, ℕ, replicate, vec_items, ◌∙◌}
 use Rattle.session.specs.Hands.{post}
 use Rattle.session.proofs.Asking.{asked-said, asked-left}
 use Rattle.session.proofs.calls.carry_out.Goals as goal

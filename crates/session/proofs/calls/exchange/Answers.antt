@@ -1,4 +1,3 @@
-use Rattle.std.proofs.Common.{length}
 use Rattle.custody.specs.Ledger.{all_after}
 use Rattle.custody.specs.Promise.{replies}
 use Rattle.session.proofs.Answered.{same_answer, same_buffer}

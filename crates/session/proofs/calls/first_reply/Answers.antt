@@ -1,4 +1,4 @@
-use Rattle.std.proofs.Common.{◌≡◌, ℕ, List, [], ◌∷◌, length, vec_items, Option, sym, ap, ◌∙◌, ap₂}
+use Rattle.std.proofs.Common.{ℕ, List, [], ◌∷◌, vec_items, Option, sym, ap, ◌∙◌, ap₂}
 use Rattle.custody.specs.declared.call.Answer.{Answer}
 use Rattle.custody.specs.Promise.{Replied}
 use Rattle.session.proofs.Answered.{never_silent, one-reply}

@@ -1,4 +1,4 @@
-use Rattle.std.proofs.Common.{◌≡◌, eqb, length, sym, ap, arith}
+use Rattle.std.proofs.Common.{eqb, length, sym, ap, arith}
 use Rattle.std.proofs.lemmas.List.{get_or_past}
 use Rattle.std.proofs.lemmas.Bool.{eqb-true}
 use Rattle.session.proofs.step.is_comment.Goals as goal

@@ -1,4 +1,4 @@
-use Rattle.std.proofs.Common.{sym, ap, ◌∙◌, ap₂, arith}
+use Rattle.std.proofs.Common.{sym, ap, ◌∙◌, ap₂}
 use Rattle.std.proofs.lemmas.List.{with_items_is}
 use Rattle.ring.specs.Engines.{engine_answer, product_mod}
 use Rattle.packing.specs.Answers.{pack_key_answer, unpack_key_answer}

@@ -1,4 +1,4 @@
-use Rattle.std.proofs.Common.{◌+◌, get_or, pos, refl, ap, ◌∙◌, arith, w16, SFits, rules}
+use Rattle.std.proofs.Common.{◌+◌, get_or, pos, ap, ◌∙◌, arith, w16, SFits, rules}
 use lib.ListN.{length-map}
 use Rattle.std.proofs.lemmas.Int.{ints}
 use Rattle.ring.proofs.Mixed.{mixed_none}

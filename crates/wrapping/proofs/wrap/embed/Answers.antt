@@ -1,4 +1,4 @@
-use Rattle.std.proofs.Common.{ℕ, length, get_or, sym, ap, ◌∙◌, arith}
+use Rattle.std.proofs.Common.{length, get_or, sym, ap, ◌∙◌, arith}
 use Rattle.ring.proofs.Mixed.{mixed_none}
 use Rattle.wrapping.specs.Wraps.{embedded}
 use Rattle.wrapping.proofs.Filling.{written-more, over_done}

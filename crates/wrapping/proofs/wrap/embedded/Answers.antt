@@ -1,4 +1,4 @@
-use Rattle.std.proofs.Common.{◌≡◌, ℕ, ◌+◌, ◌*◌, ◌/◌, ◌%◌, ◌^◌, ◌<◌, ◌≤◌, sym, ◌∙◌, ap₂, mul-le-mul, arith}
+use Rattle.std.proofs.Common.{◌≡◌, ℕ, ◌+◌, ◌*◌, ◌/◌, ◌%◌, ◌^◌, ◌<◌, ◌≤◌, ap₂, mul-le-mul, arith}
 use Rattle.code.specs.Widths.{radius}
 use Rattle.code.proofs.FoldLaws.{radius_twice}
 use Rattle.wrapping.specs.Wraps.{rounded, embedded}

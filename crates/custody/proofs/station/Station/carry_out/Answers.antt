@@ -1,4 +1,4 @@
-use Rattle.std.proofs.Common.{◌≡◌, ℕ, ◌≤◌, List, length, get_or, take, drop, Some, vec_items, sym, refl, ap, ◌∙◌, ap₂, arith, take_all}
+use Rattle.std.proofs.Common.{◌≡◌, length, get_or, take, Some, sym, refl, ap, ◌∙◌, ap₂, arith, take_all}
 use Rattle.std.proofs.lemmas.List.{with_items_is}
 use Rattle.std.specs.Vec.{with_items}
 use Rattle.custody.specs.declared.exchange.Exchange.{Exchange}
@@ -9,7 +9,7 @@ use Rattle.custody.specs.Promise.{given, replies}
 use Rattle.keying.specs.Told.{Told}
 use Rattle.custody.specs.Stations.{told_by}
 use Rattle.places.specs.Views.{book}
-use Rattle.custody.proofs.Exchanging.{Going, going_starts, going_on, asked_calls}
+use Rattle.custody.proofs.Exchanging.{going_starts, going_on, asked_calls}
 use Rattle.custody.proofs.Running.{run_keeps}
 use Rattle.custody.proofs.station.Station.carry_out.Goals as goal
 

@@ -1,4 +1,4 @@
-use Rattle.std.proofs.Common.{◌≡◌, sym, ◌∙◌}
+use Rattle.std.proofs.Common.{sym, ◌∙◌}
 use Rattle.keying.proofs.Tellings.{ready_is}
 use Rattle.places.proofs.RowParts.{filled-below}
 use Rattle.custody.proofs.station.Station.open.Goals as goal

@@ -1,4 +1,4 @@
-use Rattle.std.proofs.Common.{◌≡◌, length, sym, refl, ap, ◌∙◌}
+use Rattle.std.proofs.Common.{length, sym, refl, ap, ◌∙◌}
 use Rattle.custody.specs.Calls.{answer, after, buffer_after, done, likeness, told_of}
 use Rattle.keying.specs.Told.{Told}
 use Rattle.custody.specs.Stations.{told_by}

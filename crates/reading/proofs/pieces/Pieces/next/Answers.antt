@@ -1,4 +1,4 @@
-use Rattle.std.proofs.Common.{sym, rules}
+use Rattle.std.proofs.Common.{sym}
 use Rattle.reading.specs.Cuts.{cuts}
 use Rattle.reading.proofs.Cutting.{parts_split}
 use Rattle.reading.proofs.pieces.Pieces.next.Goals as goal

@@ -1,4 +1,4 @@
-use Rattle.std.proofs.Common.{◌≡◌, IsUtf8, sym, ap, ◌∙◌, inl}
+use Rattle.std.proofs.Common.{IsUtf8, sym, ap, ◌∙◌, inl}
 use Rattle.reading.specs.Cuts.{first, others}
 use Rattle.reading.specs.Lines.{words_of, words_left}
 use Rattle.session.specs.Hands.{at_hand}

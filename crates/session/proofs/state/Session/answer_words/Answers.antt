@@ -1,9 +1,9 @@
-use Rattle.std.proofs.Common.{◌≡◌, ℕ, Result, sym, refl, ap, ◌∙◌, arith}
+use Rattle.std.proofs.Common.{◌≡◌, ℕ, Result, refl, ap, ◌∙◌, arith}
 use Rattle.std.proofs.lemmas.Result.{MatchResult-weaker}
 use Rattle.script.specs.Asked.{Asked}
 use Rattle.script.specs.Commands.{asked_of, command_of}
 use Rattle.reading.specs.declared.fault.Fault.{Fault}
-use Rattle.reading.specs.declared.fault.Fault.TheVariants.{Unread, NoSuchEngine, Memory}
+use Rattle.reading.specs.declared.fault.Fault.TheVariants.{Unread, NoSuchEngine}
 use Rattle.reading.specs.Lines.{words_left}
 use Rattle.session.specs.Commands.{carried, not_read, not_made}
 use Rattle.session.proofs.Understood.{ok_due, err_due}
