@@ -16,13 +16,14 @@ use Rattle.wrapping.proofs.WrapLaws.{wrap_fair}
 use Rattle.keying.specs.declared.key.Key.{Key}
 use Rattle.keying.specs.Keys.{f_of, g_of, h_of}
 use Rattle.keying.specs.Told.{Told, ready}
-use Rattle.places.specs.Books.{Line, Book, at, empty_book}
+use Rattle.places.specs.Books.{Line, Book, at}
 use Rattle.places.specs.Replies.{then}
 use Rattle.places.specs.Checks.{found, buffered}
 use Rattle.places.specs.Lines.{deposited}
 use Rattle.custody.specs.Checks.{deposit, held, opened, open_reply}
-use Rattle.custody.specs.Ledger.{Ledger, due}
-use Rattle.custody.specs.Promise.{Asked, Replied, Near, Matches, Kept, given, ledger_after, replies}
+use Rattle.custody.specs.declared.call.Call.{Call}
+use Rattle.custody.specs.Ledger.{Ledger, due, ledger_of}
+use Rattle.custody.specs.Promise.{Asked, Replied, Near, Matches, Kept, Upheld}
 use Rattle.custody.proofs.DueBits.{length-decoded, decoded_bits}
 use Rattle.custody.proofs.Entering.{ledger_sound}
 use Rattle.custody.proofs.Outcomes.{Any, mild, deposit_cases}
@@ -80,18 +81,18 @@ deposit-fair key told book place w r message e exact short loud =
     Mild x = mild x ≡ true
 
 -- ---- the promise
-module _ (key : Key) (told : Told) (asked : List Asked) (replied : List Replied) where
+module _ (key : Key) (told : Told) (calls : List Call) where
   ledger : Ledger
-  ledger = ledger_after key told asked
+  ledger = ledger_of key told calls
 
   sound : Sound key told ledger
   unfolding ledger
-  sound = ledger_sound key told (map (λ x. x.0) asked)
+  sound = ledger_sound key told calls
 
-  ledger_keeps : replied ≡ given (replies key told empty_book asked) → Kept key told asked replied (ledger_after key told asked).lines
+  pub ledger_keeps : Kept key told calls (ledger_of key told calls).lines
   unfolding ledger
-  ledger_keeps answers = record {
-    matches = record { places = refl; answers = answers };
+  ledger_keeps = record {
+    matches = refl;
     near = λ place line e. line_near key line (due ledger place) (some place line e) (sound.each place line e);
     opens = λ place line e. record {
       obeyed = open_line key told ledger.lines place line (held_line key told ledger.lines place line (sound.fit place line e) (omega (arith, at_inside ledger.lines place line e, sound.lines_long)) e);
@@ -104,5 +105,9 @@ module _ (key : Key) (told : Told) (asked : List Asked) (replied : List Replied)
       some : (place : ℕ) (line : Line) → at ledger.lines place ≡ Some line → 0 < key.degree
       some place line e = ready-some key.degree told (sound.fit place line e)
 
-  pub keeps : (book : Book) → Matches key told asked replied book → Kept key told asked replied book
-  keeps book m = subst (Kept key told asked replied) (sym m.places) (ledger_keeps m.answers)
+  pub keeps : (book : Book) → book ≡ (ledger_of key told calls).lines → Kept key told calls book
+  keeps book e = subst (Kept key told calls) (sym e) ledger_keeps
+
+-- the same with the replies
+pub upholds : (key : Key) (told : Told) (asked : List Asked) (replied : List Replied) (book : Book) → Matches key told asked replied book → Upheld key told asked replied book
+upholds key told asked replied book m = record { matches = m; kept = keeps key told (map (λ x. x.0) asked) book m.places }

@@ -7,10 +7,10 @@ use Rattle.custody.specs.declared.call.Answer.{Answer}
 use Rattle.keying.specs.Told.{Told}
 use Rattle.places.specs.Books.{Book, empty_book}
 use Rattle.custody.specs.Calls.{answer, after, buffer_after}
-use Rattle.custody.specs.Ledger.{Ledger, all_after, blank, entered, entered_all}
-use Rattle.custody.specs.Promise.{Asked, Replied, Kept, given, ledger_after, replies}
+use Rattle.custody.specs.Ledger.{Ledger, all_after, blank, entered, entered_all, ledger_of}
+use Rattle.custody.specs.Promise.{Asked, Replied, Kept, Upheld, given, ledger_after, replies}
 use Rattle.custody.proofs.Entering.{entered_all_append}
-use Rattle.custody.proofs.Keeping.{keeps}
+use Rattle.custody.proofs.Keeping.{keeps, upholds}
 
 module _ (key : Key) (told : Told) where
   pub run_lines : (ledger : Ledger) (calls : List Call) → (entered_all key told ledger calls).lines ≡ all_after key told ledger.lines calls
@@ -22,6 +22,14 @@ module _ (key : Key) (told : Told) where
   unfolding all_after
   run_more book [] call = refl
   run_more book (x ∷ calls) call = run_more (after key told book x) calls call
+
+  -- from a past that keeps the promise to that past and the calls
+  pub run_keeps : (past calls : List Call) (book end : Book) → Kept key told past book → end ≡ all_after key told book calls → Kept key told (past ++ calls) end
+  run_keeps past calls book end kept e =
+      keeps key told (past ++ calls) end
+      (e ∙ ap (λ b. all_after key told b calls) kept.matches
+      ∙ sym (run_lines (ledger_of key told past) calls)
+      ∙ ap (λ l. l.lines) (sym (entered_all_append key told blank past calls)))
 
   -- what one call more is answered
   abbrev pub reply : Book → Asked → Answer × List ℕ
@@ -38,27 +46,32 @@ module _ (key : Key) (told : Told) where
   unfolding replies
   replies-more book asked x = replies_append book asked (x ∷ [])
 
-  -- from a past that keeps the promise to that past and what is asked after it
-  module _ (asked more : List Asked) (replied : List Replied) (book : Book) (kept : Kept key told asked replied book) where
+  -- the same of what is asked after it, with the replies
+  module _ (asked more : List Asked) (replied : List Replied) (book : Book) (past : Upheld key told asked replied book) where
     here : book ≡ all_after key told empty_book (map (λ y. y.0) asked)
-    here = kept.matches.places ∙ run_lines blank (map (λ y. y.0) asked)
+    here = past.matches.places ∙ run_lines blank (map (λ y. y.0) asked)
 
     calls_append : map (λ y. y.0) (asked ++ more) ≡ map (λ y. y.0) asked ++ map (λ y. y.0) more
     calls_append = map-append (λ y. y.0) asked more
 
-    pub run_keeps : (end : Book) (new : List Replied) → end ≡ all_after key told book (map (λ y. y.0) more) → new ≡ given (replies key told book more)
-        → Kept key told (asked ++ more) (replied ++ new) end
-    run_keeps end new e r =
-        keeps key told (asked ++ more) (replied ++ new) end (record {
-          places = e ∙ ap (λ b. all_after key told b (map (λ y. y.0) more)) kept.matches.places
+    pub run_upholds : (end : Book) (new : List Replied) → end ≡ all_after key told book (map (λ y. y.0) more) → new ≡ given (replies key told book more)
+        → Upheld key told (asked ++ more) (replied ++ new) end
+    run_upholds end new e r =
+        upholds key told (asked ++ more) (replied ++ new) end (record {
+          places = e ∙ ap (λ b. all_after key told b (map (λ y. y.0) more)) past.matches.places
               ∙ sym (run_lines (ledger_after key told asked) (map (λ y. y.0) more))
               ∙ ap (λ l. l.lines) (sym (ap (entered_all key told blank) calls_append ∙ entered_all_append key told blank (map (λ y. y.0) asked) (map (λ y. y.0) more)));
-          answers = ap₂ ◌++◌ kept.matches.answers (r ∙ ap (λ b. given (replies key told b more)) here)
+          answers = ap₂ ◌++◌ past.matches.answers (r ∙ ap (λ b. given (replies key told b more)) here)
               ∙ sym (map-append (λ p. (Some p.0, p.1)) (replies key told empty_book asked) (replies key told (all_after key told empty_book (map (λ y. y.0) asked)) more))
               ∙ ap given (sym (replies_append empty_book asked more));
         })
 
   -- eight empty places keep the promise before any call
-  pub kept_start : (book : Book) → book ≡ empty_book → Kept key told [] [] book
+  pub kept_start : (book : Book) → book ≡ empty_book → Kept key told [] book
+  unfolding entered_all
+  kept_start book e = keeps key told [] book e
+
+  -- and uphold it, with no reply yet
+  pub upheld_start : (book : Book) → book ≡ empty_book → Upheld key told [] [] book
   unfolding entered_all replies
-  kept_start book e = keeps key told [] [] book (record { places = e; answers = refl })
+  upheld_start book e = upholds key told [] [] book (record { places = e; answers = refl })

@@ -89,26 +89,27 @@ module _ (key : Key) (told : Told) where
                 (s.each p l (sym (get_or-set_other ledger.lines place p (Some line) None other) ∙ e))
           ]
 
-  pub empty_sound : (ledger : Ledger) (place : ℕ) → Sound key told ledger → Sound key told (record { lines = set ledger.lines place None; dues = set ledger.dues place [] })
+  pub empty_sound : (ledger : Ledger) (place : ℕ) → Sound key told ledger → Sound key told (record { lines = set ledger.lines place None; dues = ledger.dues })
   empty_sound ledger place s = record {
     lines_long = length-set ledger.lines place None ∙ s.lines_long;
-    dues-long = length-set ledger.dues place [] ∙ s.dues-long;
-    fit = λ p line e. s.fit p line (kept p line e (elsewhere p line e));
-    each = λ p line e. subst (SoundLine key line) (sym (get_or-set_other ledger.dues place p [] [] (elsewhere p line e))) (s.each p line (kept p line e (elsewhere p line e)));
+    dues-long = s.dues-long;
+    fit = λ p line e. s.fit p line (kept p line e);
+    each = λ p line e. s.each p line (kept p line e);
   }
     where
-      elsewhere : (p : ℕ) (line : Line) → at (set ledger.lines place None) p ≡ Some line → p ≡ place → ⊥
-      elsewhere p line e same = none_some (sym (ap (at (set ledger.lines place None)) same ∙ at-emptied ledger.lines place) ∙ e)
-
-      kept : (p : ℕ) (line : Line) → at (set ledger.lines place None) p ≡ Some line → (p ≡ place → ⊥) → at ledger.lines p ≡ Some line
-      kept p line e other = sym (get_or-set_other ledger.lines place p None None other) ∙ e
+      kept : (p : ℕ) (line : Line) → at (set ledger.lines place None) p ≡ Some line → at ledger.lines p ≡ Some line
+      kept p line e =
+          elim (cases_eq p place) [
+            | inl same ↦ absurd (none_some (sym (ap (at (set ledger.lines place None)) same ∙ at-emptied ledger.lines place) ∙ e))
+            | inr other ↦ sym (get_or-set_other ledger.lines place p None None other) ∙ e
+          ]
 
   -- a reply whose line may be entered
   pub put_sound : (ledger : Ledger) (place : ℕ) (reply : Reply Line) (bits : List ℕ) → Sound key told ledger → MatchResult reply (Entry key told place bits) Any → Sound key told (record { lines = put ledger.lines place reply; dues = owed ledger.dues place reply bits })
   put_sound ledger place (Ok line) bits s entry = fill_sound ledger place line bits s entry
   put_sound ledger place (Err e) bits s entry = s
 
-  pub emptied_sound : (ledger : Ledger) (place : ℕ) (reply : Reply Line) → Sound key told ledger → Sound key told (record { lines = emptied ledger.lines place reply; dues = owed ledger.dues place reply [] })
+  pub emptied_sound : (ledger : Ledger) (place : ℕ) (reply : Reply Line) → Sound key told ledger → Sound key told (record { lines = emptied ledger.lines place reply; dues = ledger.dues })
   emptied_sound ledger place (Ok line) s = empty_sound ledger place s
   emptied_sound ledger place (Err e) s = s
 

@@ -1,5 +1,6 @@
 -- The nine calls: what each answers, what the book is afterwards, and what the caller's buffer holds then.
-use Rattle.std.specs.Prelude.{ℕ, Bool, true, false, ◌&&◌, List, [], ◌∷◌, length, Ok, Err, ◌==◌}
+use Rattle.std.specs.Prelude.{ℕ, Bool, true, false, ◌&&◌, List, [], ◌∷◌, length, Ok, Err, Result, ◌==◌}
+use Rattle.ring.specs.declared.refusal.Refusal.{Refusal}
 use Rattle.packing.specs.Digits.{packed}
 use Rattle.keying.specs.declared.key.Key.{Key}
 use Rattle.custody.specs.declared.call.Call.{Call}
@@ -27,7 +28,7 @@ done (Ok x) = Done
 done (Err e) = Refused e
 
 -- what tell answers of a line
-abbrev pub holding : Reply Line → Reply Holding
+abbrev pub holding : Result Line Refusal → Result Holding Refusal
 holding (Ok a) = Ok (record { width = a.width; allowance = a.allowance })
 holding (Err e) = Err e
 

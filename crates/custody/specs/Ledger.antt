@@ -7,11 +7,10 @@ use Rattle.custody.specs.declared.call.Call.TheVariants.{Deposit, Join, Trim, Cl
 use Rattle.keying.specs.Told.{Told}
 use Rattle.places.specs.Books.{Line, Book, empty_book}
 use Rattle.places.specs.Replies.{Reply}
-use Rattle.custody.specs.Checks.{deposit, join, held}
+use Rattle.custody.specs.Checks.{deposit, join}
 use Rattle.custody.specs.Calls.{after}
 
--- the lines, and for each line its due bits, as a message: the exclusive-or of what was deposited and joined there;
--- an empty line has none
+-- the lines, and for each line its due bits, as a message: the exclusive-or of what was deposited and joined there
 pub record Ledger : Type 0 where
   pub lines : Book
   pub dues : List (List ℕ)
@@ -29,10 +28,9 @@ abbrev pub dues_after : Key → Told → Ledger → Call → List (List ℕ)
 dues_after key told ledger (Deposit place width noise message) =
     owed ledger.dues place (deposit key told ledger.lines place width noise.now message.now) message.now
 dues_after key told ledger (Join first second) =
-    let reply = join key told ledger.lines first second in
-    owed (owed ledger.dues first reply (xored (due ledger first) (due ledger second))) second reply []
+    owed ledger.dues first (join key told ledger.lines first second) (xored (due ledger first) (due ledger second))
 dues_after key told ledger (Trim place) = ledger.dues
-dues_after key told ledger (Clear place) = owed ledger.dues place (held key told ledger.lines place) []
+dues_after key told ledger (Clear place) = ledger.dues
 dues_after key told ledger (Open place) = ledger.dues
 dues_after key told ledger (HandOut place) = ledger.dues
 dues_after key told ledger Publish = ledger.dues

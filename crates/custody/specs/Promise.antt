@@ -29,6 +29,20 @@ pub record Opens (key : Key) (told : Told) (book : Book) (place : ℕ) (line : L
   pub long : length (opened key line) ≡ key.degree / 16
   pub bits_due : (i : ℕ) → message_bit (opened key line) i ≡ message_bit bits i
 
+-- the promise of a station with a key and engines that tell this, whose places hold the book, after the calls
+pub record Kept (key : Key) (told : Told) (calls : List Call) (book : Book) : Type 0 where
+  -- the same places are filled as in the ledger, with the same width, coefficients and allowance
+  pub matches : book ≡ (ledger_of key told calls).lines
+  -- every filled place is near its due words
+  pub near : (place : ℕ) (line : Line) → at book place ≡ Some line → Near key line (due (ledger_of key told calls) place)
+  -- every filled place opens to its due bits
+  pub opens : (place : ℕ) (line : Line) → at book place ≡ Some line → Opens key told book place line (due (ledger_of key told calls) place)
+  -- no deposit is declined as too noisy if its exact error has length at most the radius less one in each octet
+  pub fair : (place width : ℕ) (noise : List ℤ) (message : List ℕ) (e : List ℤ)
+      → Exact key.degree width (f_of key) (g_of key) (h_of key) noise e
+      → loudest e ≤ (radius width - 1) * (radius width - 1)
+      → deposit key told book place width noise message ≢ Err TooNoisy
+
 -- a call and the buffer that it is handed
 abbrev pub Asked : Type 0
 Asked = Call × List ℕ
@@ -37,7 +51,7 @@ Asked = Call × List ℕ
 abbrev pub Replied : Type 0
 Replied = Option Answer × List ℕ
 
--- what each call of a list is answered where the lines of the ledger before it are these, and what its buffer holds then
+-- every call is obeyed or declined as in the ledger, with the same number, and its buffer holds what the ledger says
 unfoldable pub replies : Key → Told → Book → List Asked → List (Answer × List ℕ)
 replies key told lines [] = []
 replies key told lines (x ∷ asked) =
@@ -45,7 +59,7 @@ replies key told lines (x ∷ asked) =
     ∷ replies key told (after key told lines x.0) asked
 
 -- answers that were given
-abbrev pub given : List (Answer × List ℕ) → List Replied
+abbrev pub given : List (Answer × List ℕ) → List (Option Answer × List ℕ)
 given rs = map (λ p. (Some p.0, p.1)) rs
 
 -- the ledger after the calls that were asked
@@ -58,17 +72,9 @@ pub record Matches (key : Key) (told : Told) (asked : List Asked) (replied : Lis
   pub places : book ≡ (ledger_after key told asked).lines
   pub answers : replied ≡ given (replies key told empty_book asked)
 
--- the promise of a station with a key and engines that tell this, that was asked and that replied this since it was
--- commissioned, and whose places hold the book now
-pub record Kept (key : Key) (told : Told) (asked : List Asked) (replied : List Replied) (book : Book) : Type 0 where
-  -- the station matches its ledger
+-- the promise of a station that was asked and that replied this since it was commissioned
+pub record Upheld (key : Key) (told : Told) (asked : List Asked) (replied : List Replied) (book : Book) : Type 0 where
+  -- the station matches its ledger, in its replies too
   pub matches : Matches key told asked replied book
-  -- every filled place is near its due words
-  pub near : (place : ℕ) (line : Line) → at book place ≡ Some line → Near key line (due (ledger_after key told asked) place)
-  -- every filled place opens to its due bits
-  pub opens : (place : ℕ) (line : Line) → at book place ≡ Some line → Opens key told book place line (due (ledger_after key told asked) place)
-  -- no deposit is declined as too noisy if its exact error has length at most the radius less one in each octet
-  pub fair : (place width : ℕ) (noise : List ℤ) (message : List ℕ) (e : List ℤ)
-      → Exact key.degree width (f_of key) (g_of key) (h_of key) noise e
-      → loudest e ≤ (radius width - 1) * (radius width - 1)
-      → deposit key told book place width noise message ≢ Err TooNoisy
+  -- and it keeps the promise after these calls
+  pub kept : Kept key told (map (λ x. x.0) asked) book

@@ -3,9 +3,10 @@ ghost use Rattle.std.specs.Prelude.{◌≡◌, List, ◌++◌};
 ghost use Rattle.places.specs.Books.{empty_book};
 ghost use Rattle.custody.specs.Exchanges.{asked_of, calls_of, replied_of};
 ghost use Rattle.custody.specs.Ledger.{all_after};
-ghost use Rattle.custody.specs.Promise.{Asked, Replied, given, replies, Kept};
+ghost use Rattle.custody.specs.Promise.{Asked, Replied, given, replies, Kept, Upheld};
 ghost use Rattle.keying.specs.Drafts.{told_by as drafted};
 ghost use Rattle.custody.specs.Stations.{key_of, told_by, shown_by};
+ghost use Rattle.custody.specs.declared.call.Call.{Call as Calls};
 
 use crate::exchange::Exchange;
 use crate::station::Station;
@@ -37,7 +38,8 @@ impl<P: RingEngine, Q: RingEngine> Station<P, Q> {
         ensures calls { calls_of exchanges.new ≡ calls_of exchanges.old }
         ensures replied { replied_of exchanges.new ≡ given (replies (key_of self.old) (told_by P.RingEngine Q.RingEngine self.old) (shown_by self.old) (asked_of exchanges.old)) }
         ensures places { shown_by self.new ≡ all_after (key_of self.old) (told_by P.RingEngine Q.RingEngine self.old) (shown_by self.old) (calls_of exchanges.old) }
-        ensures kept { (asked : List Asked) (replied : List Replied) → Kept (key_of self.old) (told_by P.RingEngine Q.RingEngine self.old) asked replied (shown_by self.old) → Kept (key_of self.old) (told_by P.RingEngine Q.RingEngine self.old) (asked ++ asked_of exchanges.old) (replied ++ replied_of exchanges.new) (shown_by self.new) }
+        ensures kept { (past : List Calls) → Kept (key_of self.old) (told_by P.RingEngine Q.RingEngine self.old) past (shown_by self.old) → Kept (key_of self.old) (told_by P.RingEngine Q.RingEngine self.old) (past ++ calls_of exchanges.old) (shown_by self.new) }
+        ensures upheld { (asked : List Asked) (replied : List Replied) → Upheld (key_of self.old) (told_by P.RingEngine Q.RingEngine self.old) asked replied (shown_by self.old) → Upheld (key_of self.old) (told_by P.RingEngine Q.RingEngine self.old) (asked ++ asked_of exchanges.old) (replied ++ replied_of exchanges.new) (shown_by self.new) }
     {
         for x in exchanges.iter_mut() {
             let call = x.call;
@@ -57,7 +59,9 @@ pub fn replay<P: RingEngine, Q: RingEngine>(
     ensures key { key_of result ≡ draft.key }
     ensures told { told_by P.RingEngine Q.RingEngine result ≡ drafted P.RingEngine Q.RingEngine draft }
     ensures calls { calls_of exchanges.new ≡ calls_of exchanges.old }
-    ensures kept { Kept draft.key (drafted P.RingEngine Q.RingEngine draft) (asked_of exchanges.old) (replied_of exchanges.new) (shown_by result) }
+    ensures replied { replied_of exchanges.new ≡ given (replies draft.key (drafted P.RingEngine Q.RingEngine draft) empty_book (asked_of exchanges.old)) }
+    ensures kept { Kept draft.key (drafted P.RingEngine Q.RingEngine draft) (calls_of exchanges.old) (shown_by result) }
+    ensures upheld { Upheld draft.key (drafted P.RingEngine Q.RingEngine draft) (asked_of exchanges.old) (replied_of exchanges.new) (shown_by result) }
 {
     let mut station = Station::commission(draft);
     station.carry_out(exchanges);

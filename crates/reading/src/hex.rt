@@ -9,7 +9,7 @@ use crate::text;
 use std::alloc::Global;
 
 // The value of a hexadecimal digit.
-fn digit(code: u8) -> Result<u8, Unread>
+pub fn digit(code: u8) -> Result<u8, Unread>
     ensures { result ≡ digit_value code }
 {
     match code {
@@ -30,7 +30,7 @@ fn byte(high: u8, low: u8) -> Result<u8, Unread>
 }
 
 // The bytes that a word of hexadecimal digits stands for.
-pub(crate) fn read(heap: Global, word: &[u8]) -> Result<Vec<u8>, Fault>
+pub fn read(heap: Global, word: &[u8]) -> Result<Vec<u8>, Fault>
     ensures { Spared (seen vec_items result) (faulty (bytes_of word.now)) }
 {
     let mut out = Vec::new(heap);

@@ -4,10 +4,10 @@
 mod arguments;
 pub mod coefficients;
 pub mod fault;
-mod hex;
+pub mod hex;
 pub mod laws;
 pub mod lengths;
-mod numbers;
+pub mod numbers;
 mod pieces;
 pub mod rows;
 pub mod text;

@@ -59,14 +59,14 @@ fn unsigned(text: &[u8], most: usize) -> Result<usize, Unread>
 }
 
 // A number without sign.
-pub(crate) fn number(text: &[u8]) -> Result<usize, Unread>
+pub fn number(text: &[u8]) -> Result<usize, Unread>
     ensures { result ≡ number_of text.now }
 {
     unsigned(text, usize::MAX)
 }
 
 // A width in bits.
-pub(crate) fn width(text: &[u8]) -> Result<u32, Unread>
+pub fn width(text: &[u8]) -> Result<u32, Unread>
     ensures { result ≡ width_of text.now }
 {
     Ok(unsigned(text, u32::MAX as usize)? as u32)

@@ -1,6 +1,7 @@
 // A row as a script writes it: `[LENGTH/]TERM,TERM..`, where a term is a value for the next place,
 // `PLACE:VALUE`, or `*:VALUE` for every place, and `-` is all zero.
-ghost use Rattle.std.specs.Prelude.{◌≡◌, vec_items};
+ghost use Rattle.std.specs.Prelude.{◌≡◌, length, replicate, if◌then◌else◌, Ok, Err, vec_items, nat_lt, slice_set};
+ghost use Rattle.reading.specs.Coefficients.{natural, whole};
 ghost use Rattle.reading.specs.Cuts.{cuts, parts_of};
 ghost use Rattle.reading.specs.Memory.{faulty, Spared};
 ghost use Rattle.reading.specs.Rows.{put_at, term_of, terms_of, head_of, row_of, each, row_by, comma};
@@ -16,14 +17,23 @@ use std::alloc::Global;
 pub const MAX_LENGTH: usize = 4096;
 
 // Writes a value at a place of the row.
-fn put(row: &mut [i32], place: usize, value: i32) -> Result<(), Unread>
-    ensures { seen (λ _. row.new) result ≡ put_at place value row.old }
+pub fn put(row: &mut [i32], place: usize, value: i32) -> Result<(), Unread>
+    ensures answers { result ≡ (if nat_lt place (length row.old) then Ok tt else Err Unread.Row) }
+    ensures writes { row.new ≡ slice_set row.old place value }
+    ensures step { seen (λ _. row.new) result ≡ put_at place value row.old }
 {
     if place >= row.len() {
         return Err(Unread::Row);
     }
     row[place] = value;
     Ok(())
+}
+
+// Writes a value at every place of the row.
+pub fn fill(row: &mut [i32], value: i32)
+    ensures { row.new ≡ replicate (length row.old) value }
+{
+    row.fill(value);
 }
 
 // Writes one term, and gives the place that a term without one would take after it.
@@ -36,7 +46,7 @@ fn term(row: &mut [i32], text: &[u8], next: usize) -> Result<usize, Unread>
     };
     let value = numbers::signed(word)?;
     if text::same(place, b"*") {
-        row.fill(value);
+        fill(row, value);
     } else {
         put(row, numbers::number(place)?, value)?;
     }
@@ -93,7 +103,7 @@ fn narrowed<C: Coefficient + Drop>(heap: Global, row: &[i32]) -> Result<Vec<C>, 
 }
 
 // A row of coefficients of one kind.
-pub(crate) fn read<C: Coefficient + Drop>(
+pub fn read<C: Coefficient + Drop>(
     heap: Global,
     text: &[u8],
     degree: usize,
@@ -102,4 +112,18 @@ pub(crate) fn read<C: Coefficient + Drop>(
 {
     let row = numbers_of(heap, text, degree)?;
     narrowed(heap, row.as_slice())
+}
+
+// A row of coefficients without sign.
+pub fn unsigned(heap: Global, text: &[u8], degree: usize) -> Result<Vec<u16>, Fault>
+    ensures { Spared (seen vec_items result) (faulty (row_by natural degree text.now)) }
+{
+    read::<u16>(heap, text, degree)
+}
+
+// A row of coefficients with sign.
+pub fn signed(heap: Global, text: &[u8], degree: usize) -> Result<Vec<i16>, Fault>
+    ensures { Spared (seen vec_items result) (faulty (row_by whole degree text.now)) }
+{
+    read::<i16>(heap, text, degree)
 }

@@ -36,7 +36,7 @@ impl<'a> Words<'a> {
     }
 
     // The next word, which the command needs.
-    pub(crate) fn required(&mut self) -> Result<&'a [u8], Unread>
+    pub fn required(&mut self) -> Result<&'a [u8], Unread>
         ensures answers { seen (λ x. x.now) result ≡ ok_or (first (words_left self.old)) Unread.Words }
         ensures leaves { words_left self.new ≡ others (words_left self.old) }
     {
@@ -47,8 +47,9 @@ impl<'a> Words<'a> {
     }
 
     // No word may be left.
-    pub fn end(mut self) -> Result<(), Unread>
-        ensures { result ≡ ended (words_left self.entry) }
+    pub fn end(&mut self) -> Result<(), Unread>
+        ensures answers { result ≡ ended (words_left self.old) }
+        ensures leaves { words_left self.new ≡ others (words_left self.old) }
     {
         match self.optional() {
             Some(_) => Err(Unread::Words),

@@ -6,7 +6,7 @@ use Rattle.ring.specs.Engines.{all_below}
 use Rattle.reading.specs.Hex.{digit_value, byte_of, pairs, bytes_of}
 use Rattle.script.specs.Written.{digit_code, hex_of}
 
-digit_returns : (value : ℕ) → value < 16 → digit_value (digit_code value) ≡ Ok value
+pub digit_returns : (value : ℕ) → value < 16 → digit_value (digit_code value) ≡ Ok value
 digit_returns value small = grind arith
 
 byte_returns : (byte : ℕ) → byte < 256 → byte_of (digit_code (byte / 16)) (digit_code (byte % 16)) ≡ Ok byte

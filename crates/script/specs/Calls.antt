@@ -1,5 +1,7 @@
 -- The calls of a station, read from the words after their names, with rows of so many places.
-use Rattle.std.specs.Prelude.{ℕ, ◌/◌, Ok}
+use Rattle.std.specs.Prelude.{ℕ, ◌/◌, List, Some, None, Ok, Err, Option}
+use Rattle.reading.specs.declared.fault.Fault.TheVariants.{Unread as NotRead}
+use Rattle.reading.specs.declared.fault.Unread.TheVariants.{Command as NoCommand}
 use Rattle.reading.specs.Arguments.{Reader, argument, length_if_any, length_or, next, known}
 use Rattle.reading.specs.Coefficients.{whole}
 use Rattle.reading.specs.Hex.{bytes_of}
@@ -8,6 +10,7 @@ use Rattle.reading.specs.Numerals.{number_of, width_of}
 use Rattle.reading.specs.Rows.{row_by}
 use Rattle.script.specs.declared.names.CallName.{CallName}
 use Rattle.script.specs.declared.names.CallName.TheVariants.{Deposit, Join, Trim, Clear, Open, HandOut, Publish, Tell, Alike}
+use Rattle.script.specs.Names.{call_name}
 use Rattle.script.specs.Asked.{Asked, deposit, join, trim, clear, open_place, hand_out, publish, tell, alike}
 
 -- a place, a width, a row of noise and a message
@@ -62,3 +65,12 @@ call_line HandOut degree = hand_out_line
 call_line Publish degree = publish_line degree
 call_line Tell degree = tell_line
 call_line Alike degree = alike_line
+
+-- the call of a name, if it is one
+abbrev pub call_by : Option CallName → ℕ → Reader Asked
+call_by (Some name) degree = call_line name degree
+call_by None degree = known (Err (NotRead NoCommand))
+
+-- the call that a word names
+abbrev pub named_call : List ℕ → ℕ → Reader Asked
+named_call word degree = call_by (call_name word) degree

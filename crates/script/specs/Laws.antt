@@ -1,10 +1,14 @@
 -- What is written can be read.
-use Rattle.std.specs.Prelude.{◌≡◌, ℕ, ◌≤◌, true, List, ◌∷◌, length, Ok}
+use Rattle.std.specs.Prelude.{◌≡◌, ℕ, ◌<◌, ◌≤◌, true, List, ◌∷◌, length, Ok}
 use Rattle.ring.specs.Engines.{all_below}
 use Rattle.reading.specs.Coefficients.{natural}
-use Rattle.reading.specs.Hex.{bytes_of}
+use Rattle.reading.specs.Hex.{bytes_of, digit_value}
 use Rattle.reading.specs.Rows.{row_by}
-use Rattle.script.specs.Written.{hex_of, row_text}
+use Rattle.script.specs.Written.{digit_code, hex_of, row_text}
+
+-- each digit that is written is read as its value
+abbrev pub DigitsReturn : Type 0
+DigitsReturn = (value : ℕ) → value < 16 → digit_value (digit_code value) ≡ Ok value
 
 -- one byte or more, as they are written, are read as they were
 abbrev pub BytesReturn : Type 0

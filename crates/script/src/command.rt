@@ -9,7 +9,7 @@ ghost use Rattle.script.specs.Commands.{asked_of, engine_pair, engines_line, key
 use crate::names::{CallName, TaskName};
 use crate::request::Request;
 use crate::task::Task;
-use crate::{engine, request, task};
+use crate::{request, task};
 use reading::coefficients::Coefficient;
 use reading::fault::{Fault, Unread};
 use reading::text;
@@ -31,8 +31,8 @@ pub enum Command {
 fn pair(field: (usize, usize), binary: (usize, usize)) -> Result<Command, Fault>
     ensures { seen asked_of result ≡ engine_pair field binary }
 {
-    let field = engine::of(field.0, field.1)?;
-    let binary = engine::of(binary.0, binary.1)?;
+    let field = task::engine(field.0, field.1)?;
+    let binary = task::engine(binary.0, binary.1)?;
     Ok(Command::Engines { field, binary })
 }
 
@@ -74,7 +74,7 @@ fn named(heap: Global, name: &[u8], words: &mut Words<'_>, degree: usize) -> Res
         return Ok(Command::Apart(task::read(heap, task, words)?));
     }
     match CallName::of(name) {
-        Some(call) => Ok(Command::Station(request::read(heap, call, words, degree)?)),
+        Some(call) => Ok(Command::Station(request::called(heap, call, words, degree)?)),
         None => Err(Fault::Unread(Unread::Command)),
     }
 }
@@ -84,12 +84,12 @@ fn named(heap: Global, name: &[u8], words: &mut Words<'_>, degree: usize) -> Res
 pub fn read(
     heap: Global,
     name: &[u8],
-    mut words: Words<'_>,
+    words: &mut Words<'_>,
     degree: usize,
 ) -> Result<Command, Fault>
-    ensures { Spared (seen asked_of result) (command_of name.now degree (words_left words.entry)) }
+    ensures { Spared (seen asked_of result) (command_of name.now degree (words_left words.old)) }
 {
-    let command = named(heap, name, &mut words, degree)?;
+    let command = named(heap, name, words, degree)?;
     words.end()?;
     Ok(command)
 }

@@ -1,5 +1,10 @@
 // What is written can be read.
-ghost use Rattle.script.specs.Laws.{BytesReturn, RowsReturn};
+ghost use Rattle.script.specs.Laws.{BytesReturn, DigitsReturn, RowsReturn};
+
+// Each digit that is written is read as its value.
+pub fn digits_return()
+    ensures { DigitsReturn }
+{}
 
 // One byte or more, as they are written, are read as they were.
 pub fn bytes_return()

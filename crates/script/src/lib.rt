@@ -3,9 +3,8 @@
 
 pub mod answer;
 pub mod command;
-mod engine;
 pub mod laws;
 mod names;
 pub mod request;
 pub mod task;
-mod written;
+pub mod written;

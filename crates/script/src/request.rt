@@ -4,10 +4,10 @@ ghost use Rattle.reading.specs.Arguments.{leaving};
 ghost use Rattle.reading.specs.Lines.{words_left};
 ghost use Rattle.reading.specs.Memory.{Spared};
 ghost use Rattle.script.specs.Asked.{request_asked};
-ghost use Rattle.script.specs.Calls.{deposit_line, join_line, trim_line, clear_line, open_line, hand_out_line, publish_line, tell_line, alike_line, call_line};
+ghost use Rattle.script.specs.Calls.{deposit_line, join_line, trim_line, clear_line, open_line, hand_out_line, publish_line, tell_line, alike_line, call_line, named_call};
 
 use crate::names::CallName;
-use reading::fault::Fault;
+use reading::fault::{Fault, Unread};
 use reading::lengths;
 use reading::words::Words;
 use std::alloc::Global;
@@ -128,7 +128,22 @@ fn alike(words: &mut Words<'_>) -> Result<Request, Fault>
 }
 
 // The call of that name, read from the words that follow it, with rows of `degree` places.
-pub(crate) fn read(
+pub fn read(
+    heap: Global,
+    name: &[u8],
+    words: &mut Words<'_>,
+    degree: usize,
+) -> Result<Request, Fault>
+    ensures { Spared (leaving request_asked words.new result) (named_call name.now degree (words_left words.old)) }
+{
+    match CallName::of(name) {
+        Some(call) => called(heap, call, words, degree),
+        None => Err(Fault::Unread(Unread::Command)),
+    }
+}
+
+// The same of a call.
+pub(crate) fn called(
     heap: Global,
     name: CallName,
     words: &mut Words<'_>,

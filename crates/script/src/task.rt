@@ -1,13 +1,14 @@
 // What a script asks for away from drafts and stations: sealing, unsealing, packing of keys, and products.
-ghost use Rattle.std.specs.Prelude.{◌≡◌};
+ghost use Rattle.std.specs.Prelude.{◌≡◌, is_ok, MatchResult};
+ghost use Rattle.ring.specs.Engines.{lawful};
 ghost use Rattle.reading.specs.Arguments.{leaving};
 ghost use Rattle.reading.specs.Lines.{words_left};
 ghost use Rattle.reading.specs.Memory.{Spared};
+ghost use Rattle.reading.specs.Steps.{seen};
 ghost use Rattle.script.specs.Asked.{task_asked};
-ghost use Rattle.script.specs.Engines.{told, engine_line};
+ghost use Rattle.script.specs.Engines.{told as told_of, engine_line, engine_of};
 ghost use Rattle.script.specs.Tasks.{seal_line, unseal_line, pack_line, unpack_line, multiply_line, task_line};
 
-use crate::engine;
 use crate::names::TaskName;
 use reading::coefficients::Coefficient;
 use reading::fault::Fault;
@@ -53,16 +54,31 @@ pub enum Task {
     },
 }
 
+// The turning engine of a degree and a modulus, where there is one.
+pub fn engine(degree: usize, modulus: usize) -> Result<Turning, Fault>
+    ensures made { is_ok result ≡ lawful degree modulus }
+    ensures told { MatchResult result (λ e. (e.degree ≡ degree) × (e.modulus ≡ modulus)) (λ fault. fault ≡ Fault.NoSuchEngine) }
+    ensures step { seen told_of result ≡ engine_of degree modulus }
+{
+    let Ok(modulus) = u16::try_from(modulus) else {
+        return Err(Fault::NoSuchEngine);
+    };
+    match Turning::new(degree, modulus) {
+        Some(engine) => Ok(engine),
+        None => Err(Fault::NoSuchEngine),
+    }
+}
+
 // An engine of the degree and the modulus that the line gives.
 fn given_engine(words: &mut Words<'_>) -> Result<Turning, Fault>
-    ensures { leaving told words.new result ≡ engine_line (words_left words.old) }
+    ensures { leaving told_of words.new result ≡ engine_line (words_left words.old) }
 {
     let degree = words.number()?;
     let modulus = words.number()?;
-    engine::of(degree, modulus)
+    engine(degree, modulus)
 }
 
-fn seal(heap: Global, words: &mut Words<'_>) -> Result<Task, Fault>
+pub fn seal(heap: Global, words: &mut Words<'_>) -> Result<Task, Fault>
     ensures { Spared (leaving task_asked words.new result) (seal_line (words_left words.old)) }
 {
     let engine = given_engine(words)?;
@@ -82,7 +98,7 @@ fn seal(heap: Global, words: &mut Words<'_>) -> Result<Task, Fault>
     })
 }
 
-fn unseal(heap: Global, words: &mut Words<'_>) -> Result<Task, Fault>
+pub fn unseal(heap: Global, words: &mut Words<'_>) -> Result<Task, Fault>
     ensures { Spared (leaving task_asked words.new result) (unseal_line (words_left words.old)) }
 {
     let engine = given_engine(words)?;
@@ -100,7 +116,7 @@ fn unseal(heap: Global, words: &mut Words<'_>) -> Result<Task, Fault>
     })
 }
 
-fn pack(heap: Global, words: &mut Words<'_>) -> Result<Task, Fault>
+pub fn pack(heap: Global, words: &mut Words<'_>) -> Result<Task, Fault>
     ensures { Spared (leaving task_asked words.new result) (pack_line (words_left words.old)) }
 {
     let degree = words.number()?;
@@ -113,7 +129,7 @@ fn pack(heap: Global, words: &mut Words<'_>) -> Result<Task, Fault>
     })
 }
 
-fn unpack(heap: Global, words: &mut Words<'_>) -> Result<Task, Fault>
+pub fn unpack(heap: Global, words: &mut Words<'_>) -> Result<Task, Fault>
     ensures { Spared (leaving task_asked words.new result) (unpack_line (words_left words.old)) }
 {
     let degree = words.number()?;
@@ -126,7 +142,7 @@ fn unpack(heap: Global, words: &mut Words<'_>) -> Result<Task, Fault>
     })
 }
 
-fn multiply(heap: Global, words: &mut Words<'_>) -> Result<Task, Fault>
+pub fn multiply(heap: Global, words: &mut Words<'_>) -> Result<Task, Fault>
     ensures { Spared (leaving task_asked words.new result) (multiply_line (words_left words.old)) }
 {
     let engine = given_engine(words)?;

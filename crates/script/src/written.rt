@@ -17,6 +17,13 @@ fn digit_code(value: u8) -> u8
     }
 }
 
+// The two digits of a byte, the high one first.
+pub fn digits(byte: u8) -> [u8; 2]
+    ensures { result ≡ byte_digits byte }
+{
+    [digit_code(byte / 16), digit_code(byte % 16)]
+}
+
 // Writes the two digits of a byte, the high one first.
 fn byte<W: fmt::Write>(value: u8, f: &mut fmt::Formatter<W>) -> fmt::Result
     ensures { WritesOnOk W.write_str_gives f.old result (byte_digits value) f.new }
@@ -27,7 +34,7 @@ fn byte<W: fmt::Write>(value: u8, f: &mut fmt::Formatter<W>) -> fmt::Result
 }
 
 // Writes bytes as pairs of digits.
-pub(crate) fn bytes<W: fmt::Write>(values: &[u8], f: &mut fmt::Formatter<W>) -> fmt::Result
+pub fn bytes<W: fmt::Write>(values: &[u8], f: &mut fmt::Formatter<W>) -> fmt::Result
     ensures { WritesOnOk W.write_str_gives f.old result (hex_of values.now) f.new }
 {
     for value in values {

@@ -6,7 +6,7 @@ use Rattle.custody.specs.declared.call.Call.TheVariants as calls
 use Rattle.custody.specs.Calls.{after}
 use Rattle.custody.specs.Ledger.{all_after}
 use Rattle.custody.specs.Promise.{Asked, given, replies}
-use Rattle.custody.proofs.Running.{kept_start, run_keeps}
+use Rattle.custody.proofs.Running.{upheld_start, run_upholds}
 use Rattle.keying.specs.declared.key.Key.{Key}
 use Rattle.keying.specs.Told.{Told}
 use Rattle.places.specs.Books.{empty_book}
@@ -55,14 +55,14 @@ request_keeps p request past =
     record {
       asked = past.asked ++ more;
       replied = past.replied ++ given (replies p.key p.told p.book more);
-      kept =
-          run_keeps p.key p.told past.asked more past.replied p.book past.kept (book_after p request)
+      upheld =
+          run_upholds p.key p.told past.asked more past.replied p.book past.upheld (book_after p request)
           (given (replies p.key p.told p.book more)) (sym (run_one p (call_of request) ∙ same-book p request)) refl;
     }
 
 -- nothing was asked of a new station
 pub new_keeps : (key : Key) (told : Told) → Promise (record { key = key; told = told; book = empty_book })
-new_keeps key told = record { asked = []; replied = []; kept = kept_start key told empty_book refl }
+new_keeps key told = record { asked = []; replied = []; upheld = upheld_start key told empty_book refl }
 
 -- a hand that is as it was
 unmoved : {answer said : Said} {before after : Hand} → Only answer before said after → Promised before → Promised after

@@ -73,12 +73,12 @@ impl Session {
         &mut self,
         heap: Global,
         name: &[u8],
-        words: Words<'_>,
+        mut words: Words<'_>,
     ) -> Result<Answer, AllocError>
         ensures replied { MatchResult result (λ answer. Replied (at_hand self.old) name.now (words_left words.entry) (said answer) (at_hand self.new)) (λ _. at_hand self.new ≡ at_hand self.old) }
         ensures promised { Promised (at_hand self.old) → Promised (at_hand self.new) }
     {
-        let fault = match command::read(heap, name, words, self.degree()) {
+        let fault = match command::read(heap, name, &mut words, self.degree()) {
             Ok(command) => return self.carry_out(heap, command),
             Err(fault) => fault,
         };

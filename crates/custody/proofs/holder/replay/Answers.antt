@@ -1,10 +1,10 @@
-use Rattle.std.proofs.Common.{◌≡◌, [], ap, ◌∙◌, subst}
-use Rattle.custody.specs.Exchanges.{asked_of, replied_of}
-use Rattle.custody.specs.Promise.{Kept}
+use Rattle.std.proofs.Common.{◌≡◌, [], ap, ◌∙◌, subst, ap₂}
+use Rattle.custody.specs.Exchanges.{asked_of, calls_of, replied_of}
+use Rattle.custody.specs.Promise.{Kept, Upheld, given, replies}
 use Rattle.keying.specs.Told.{Told}
 use Rattle.keying.specs.Drafts.{told_by as drafted}
 use Rattle.custody.specs.Stations.{key_of, told_by, shown_by}
-use Rattle.custody.proofs.Running.{kept_start}
+use Rattle.custody.proofs.Running.{kept_start, upheld_start}
 use Rattle.keying.proofs.Tellings.{tells-same}
 use Rattle.custody.proofs.holder.replay.Goals as goal
 
@@ -26,6 +26,9 @@ returns g c =
       key = q.key ∙ p.key;
       told = q.told ∙ same;
       calls = q.calls;
-      kept = subst (λ k. Kept k T (asked_of xs) new end) p.key
-          (subst (λ t. Kept (key_of s) t (asked_of xs) new end) same (q.kept [] [] (kept_start (key_of s) first (shown_by s) p.places)));
+      replied = q.replied ∙ ap₂ (λ k t. given (replies k t (shown_by s) (asked_of xs))) p.key same ∙ ap (λ b. given (replies d.key T b (asked_of xs))) p.places;
+      kept = subst (λ k. Kept k T (calls_of xs) end) p.key
+          (subst (λ t. Kept (key_of s) t (calls_of xs) end) same (q.kept [] (kept_start (key_of s) first (shown_by s) p.places)));
+      upheld = subst (λ k. Upheld k T (asked_of xs) new end) p.key
+          (subst (λ t. Upheld (key_of s) t (asked_of xs) new end) same (q.upheld [] [] (upheld_start (key_of s) first (shown_by s) p.places)));
     }

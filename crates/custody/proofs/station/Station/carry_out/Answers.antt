@@ -10,7 +10,7 @@ use Rattle.keying.specs.Told.{Told}
 use Rattle.custody.specs.Stations.{told_by}
 use Rattle.places.specs.Views.{book}
 use Rattle.custody.proofs.Exchanging.{going_starts, going_on, asked_calls}
-use Rattle.custody.proofs.Running.{run_keeps}
+use Rattle.custody.proofs.Running.{run_keeps, run_upholds}
 use Rattle.custody.proofs.station.Station.carry_out.Goals as goal
 
 pub loop-x-init : goal.loop-x-init
@@ -57,7 +57,8 @@ returns g c =
       calls = inv.2.calls;
       places = inv.2.places ∙ ap (λ w. all_after K T B (calls_of w)) all;
       replied = ap replied_of (sym every) ∙ inv.2.replied ∙ ap (λ w. given (replies K T B (asked_of w))) all;
-      kept = λ asked replied kept. run_keeps K T asked (asked_of old) replied B kept _ (replied_of c.loop-x.exchanges)
+      kept = λ past kept. run_keeps K T past (calls_of old) B _ kept (inv.2.places ∙ ap (λ w. all_after K T B (calls_of w)) all);
+      upheld = λ asked replied past. run_upholds K T asked (asked_of old) replied B past _ (replied_of c.loop-x.exchanges)
           (inv.2.places ∙ ap (λ w. all_after K T B (calls_of w)) all ∙ ap (all_after K T B) (sym (asked_calls old)))
           (ap replied_of (sym every) ∙ inv.2.replied ∙ ap (λ w. given (replies K T B (asked_of w))) all);
     }
