@@ -19,6 +19,7 @@ DECLARED = re.compile(
 )
 TOKEN = re.compile(r"[^\s(){}\[\],;.:«»\"`]+")
 IMPORT = re.compile(r"use +(Rattle\.std[^{;\n]*|[a-z][^{;\n]*)\.\{([^}]*)\}")
+SAYS = ("Rattle.std", "borrow")  # the libraries whose words the names of lemmas are made of
 RESERVED = {"use", "module", "let", "mod", "in", "elim", "λ", "where", "open", "unfolding", "mutual"}
 
 
@@ -28,10 +29,12 @@ def main():
     texts = {f: f.read_text(encoding="utf8") for f in files}
     sources = {f: f.read_text(encoding="utf8") for f in sorted(top.glob("crates/*/src/**/*.rt"))}
 
-    library, words, lemmas = set(), set(), set()
+    library, spoken, words, lemmas = set(), set(), set(), set()
     for text in list(texts.values()) + list(sources.values()):
         for found in IMPORT.finditer(text):
-            library.update(name.strip().split(" as ")[0] for name in found.group(2).split(","))
+            names = {name.strip().split(" as ")[0] for name in found.group(2).split(",")}
+            library |= names
+            spoken |= names if found.group(1).startswith(SAYS) else set()
     for file, text in texts.items():
         if file.name in NOT_OURS and "/proofs/" in file.as_posix():
             continue
@@ -44,7 +47,7 @@ def main():
             field = indent and "/specs/" in file.as_posix() and marks.strip() == "pub"
             (words if defines or field else lemmas).add(name)
     lemmas -= words
-    known = {snake(w) for w in words} | {snake(w) for w in library}
+    known = {snake(w) for w in words} | {snake(w) for w in spoken}
 
     renamed = {}
     for name in sorted(words | lemmas):
