@@ -4,3 +4,4 @@ pub mod Counting
 pub mod Pairing
 pub mod Narrowing
 pub mod Rereading
+pub mod Spacing

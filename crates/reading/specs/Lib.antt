@@ -2,6 +2,7 @@ pub mod Nouns
 pub mod Steps
 pub mod Memory
 pub mod Cuts
+pub mod Spaces
 pub mod Lines
 pub mod Numerals
 pub mod Hex

@@ -10,5 +10,6 @@ pub mod lengths;
 pub mod numbers;
 mod pieces;
 pub mod rows;
+pub mod spaces;
 pub mod text;
 pub mod words;
