@@ -2,12 +2,12 @@
 #![tactic(auto)]
 
 pub mod call;
-mod engines;
+pub mod engines;
 pub mod exchange;
 pub mod holder;
 pub mod holding;
-mod perform;
+pub mod perform;
 pub mod promise;
-mod readings;
+pub mod readings;
 pub mod station;
-mod writings;
+pub mod writings;

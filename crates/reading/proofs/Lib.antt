@@ -5,3 +5,4 @@ pub mod Pairing
 pub mod Narrowing
 pub mod Rereading
 pub mod Spacing
+pub mod Texts

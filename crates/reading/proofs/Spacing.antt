@@ -1,5 +1,5 @@
 -- White space is written over byte by byte.
-use Rattle.std.proofs.Common.{◌≡◌, ℕ, zero, suc, ◌+◌, ◌-◌, ◌<◌, ◌≤◌, true, false, cond, List, ◌∷◌, [], ◌++◌, length, get_or, take, drop, set, ◌==◌, sym, refl, ap, ◌∙◌, subst, arith, add-one, append_assoc, append-nil, take_all, drop_of_length-le, drop-cons, length-set}
+use Rattle.std.proofs.Common.{◌≡◌, ℕ, suc, ◌+◌, ◌-◌, ◌<◌, ◌≤◌, true, false, cond, List, ◌∷◌, [], ◌++◌, length, get_or, take, drop, set, ◌==◌, sym, refl, ap, ◌∙◌, subst, arith, add-one, append_assoc, append-nil, take_all, drop_of_length-le, drop-cons, length-set}
 use Rattle.std.proofs.Math.Seq.{take-suc, take-suc-set}
 use Rattle.std.proofs.lemmas.List.{drop-set-lt}
 use Rattle.std.proofs.lemmas.Bool.Decides.{nat_tests}

@@ -71,10 +71,7 @@ impl Words<'_> {
         ensures answers { leaving (λ n. n) self.new result ≡ length_if_any (words_left self.old) }
         ensures leaves { words_left self.new ≡ others (words_left self.old) }
     {
-        match self.number_if_any()? {
-            Some(length) => Ok(Some(lengths::buffer(length))),
-            None => Ok(None),
-        }
+        Ok(lengths::given(self)?)
     }
 
     // The length of a buffer, which is the right one where the line gives none.
@@ -82,9 +79,6 @@ impl Words<'_> {
         ensures answers { leaving (λ n. n) self.new result ≡ length_or right (words_left self.old) }
         ensures leaves { words_left self.new ≡ others (words_left self.old) }
     {
-        match self.length()? {
-            Some(length) => Ok(length),
-            None => Ok(lengths::buffer(right)),
-        }
+        Ok(lengths::given_or(self, right)?)
     }
 }

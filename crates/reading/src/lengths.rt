@@ -1,6 +1,12 @@
 // The lengths of the buffers that a script's calls write into.
 ghost use Rattle.std.specs.Prelude.{◌≡◌, ◌*◌, ◌/◌, min};
-ghost use Rattle.reading.specs.Lengths.{buffer_for};
+ghost use Rattle.reading.specs.Cuts.{others};
+ghost use Rattle.reading.specs.Lengths.{buffer_for, given_length, given_length_or};
+ghost use Rattle.reading.specs.Lines.{words_left};
+
+use crate::fault::Unread;
+use crate::numbers;
+use crate::words::Words;
 
 // Longer than every buffer that a call could want, so a longer one is refused all the same.
 pub const MAX_BUFFER: usize = 8192;
@@ -17,4 +23,26 @@ pub fn bytes_for(count: usize, bits: u32) -> usize
     ensures { result ≡ min (count * bits / 8) 8192 }
 {
     buffer(count.saturating_mul(bits as usize) / 8)
+}
+
+// The length that the line gives, if it gives one.
+pub fn given(words: &mut Words<'_>) -> Result<Option<usize>, Unread>
+    ensures answers { result ≡ given_length (words_left words.old) }
+    ensures leaves { words_left words.new ≡ others (words_left words.old) }
+{
+    match words.optional() {
+        Some(word) => Ok(Some(buffer(numbers::number(word)?))),
+        None => Ok(None),
+    }
+}
+
+// The length that the line gives, else the right one.
+pub fn given_or(words: &mut Words<'_>, right: usize) -> Result<usize, Unread>
+    ensures answers { result ≡ given_length_or right (words_left words.old) }
+    ensures leaves { words_left words.new ≡ others (words_left words.old) }
+{
+    match given(words)? {
+        Some(length) => Ok(length),
+        None => Ok(buffer(right)),
+    }
 }
