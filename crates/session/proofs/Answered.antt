@@ -1,5 +1,5 @@
--- The one call of a list of one, as a station leaves it.
-use Rattle.std.proofs.Common.{◌≡◌, ℕ, List, [], ◌∷◌, length, get_or, Some, None, vec_items, Option, unwrap_or, sym, refl, ap, ◌∙◌, subst, arith}
+-- The first call of a list, as a station leaves it.
+use Rattle.std.proofs.Common.{◌≡◌, ℕ, ◌<◌, List, [], ◌∷◌, length, get_or, take, Some, None, vec_items, Option, unwrap_or, sym, refl, ap, ◌∙◌, subst, arith}
 use Rattle.custody.specs.declared.call.Answer.{Answer}
 use Rattle.custody.specs.declared.exchange.Exchange.{Exchange}
 use Rattle.custody.specs.Exchanges.{replied_of}
@@ -19,15 +19,14 @@ given_begins : (rs : List (Answer × List ℕ)) → Begins (given rs)
 given_begins [] = tt
 given_begins (r ∷ rs) = tt
 
-pub one-reply : (xs : List Exchange) (d e : Exchange) → length xs ≡ 1 → replied_of xs ≡ ((get_or xs 0 d).answer, vec_items (get_or xs 0 e).buffer) ∷ []
-one-reply [] d e l = absurd (omega arith)
-one-reply (x ∷ []) d e l = refl
-one-reply (x ∷ y ∷ xs) d e l = absurd (omega arith)
+pub first_of : (xs : List Exchange) (d e : Exchange) → 0 < length xs → take 1 (replied_of xs) ≡ ((get_or xs 0 d).answer, vec_items (get_or xs 0 e).buffer) ∷ []
+first_of [] d e l = absurd (omega arith)
+first_of (x ∷ xs) d e l = refl
 
 -- it was answered
-pub never_silent : (xs : List Exchange) (d : Exchange) (rs : List (Answer × List ℕ)) → replied_of xs ≡ given rs → length xs ≡ 1 → (get_or xs 0 d).answer ≡ None → ⊥
-never_silent xs d rs replied l none =
-    subst There none (subst Begins (sym (sym (one-reply xs d d l) ∙ replied)) (given_begins rs))
+pub never_silent : (xs : List Exchange) (d : Exchange) (rs : List (Answer × List ℕ)) → replied_of xs ≡ given rs → 0 < length xs → (get_or xs 0 d).answer ≡ None → ⊥
+never_silent [] d rs replied l none = absurd (omega arith)
+never_silent (x ∷ xs) d rs replied l none = subst There none (subst Begins (sym replied) (given_begins rs))
 
 -- one reply is another: its answer and its buffer are
 pub same_answer : (a b : Answer) (u v : List ℕ) → ◌≡◌ {A = List Replied} ((Some a, u) ∷ []) ((Some b, v) ∷ []) → a ≡ b

@@ -1,5 +1,5 @@
 // The calls of a station as a script asks for them, each handed over as a list of one call with a buffer of its own.
-ghost use Rattle.std.specs.Prelude.{◌≡◌, [], ◌∷◌, length, Some, MatchResult};
+ghost use Rattle.std.specs.Prelude.{◌≡◌, ◌<◌, [], ◌∷◌, length, take, Some, MatchResult};
 ghost use Rattle.custody.specs.Exchanges.{asked_of, calls_of};
 ghost use Rattle.session.specs.Hands.{post as post_of};
 ghost use Rattle.session.specs.Posts.{answer_at, buffer_at, plain_call, post_at, post_through, replies_at};
@@ -99,14 +99,14 @@ fn answer_of(bytes: bool, answer: call::Answer, buffer: Vec<u8>) -> Answer
     }
 }
 
-// Hands over a list of one call, and takes its answer and its buffer.
+// Hands over a list of calls, and takes the answer and the buffer of the first.
 fn first_reply(
     heap: Global,
     station: &mut Station<Engine, Engine>,
     list: &mut [Exchange<'_>],
 ) -> (call::Answer, Vec<u8>)
-    requires { length list.old ≡ 1 }
-    ensures replied { (Some result.0, result.1.items) ∷ [] ≡ replies_at (post_of station.old) (asked_of list.old) }
+    requires { 0 < length list.old }
+    ensures replied { (Some result.0, result.1.items) ∷ [] ≡ take 1 (replies_at (post_of station.old) (asked_of list.old)) }
     ensures post { post_of station.new ≡ post_through (post_of station.old) (calls_of list.old) }
 {
     station.carry_out(list);

@@ -1,13 +1,13 @@
-use Rattle.std.proofs.Common.{ℕ, List, [], ◌∷◌, vec_items, Option, sym, ap, ◌∙◌, ap₂}
+use Rattle.std.proofs.Common.{ℕ, List, [], ◌∷◌, take, vec_items, Option, sym, ap, ◌∙◌, ap₂, arith}
 use Rattle.custody.specs.declared.call.Answer.{Answer}
 use Rattle.custody.specs.Promise.{Replied}
-use Rattle.session.proofs.Answered.{never_silent, one-reply}
+use Rattle.session.proofs.Answered.{never_silent, first_of}
 use Rattle.session.proofs.Arms.{moved}
 use Rattle.session.proofs.calls.first_reply.Goals as goal
 
 pub unreachable-requires : goal.unreachable-requires
 unreachable-requires c =
-    never_silent c.carry_out.new.exchanges _ _ c.carry_out.ensures.replied (c.carry_out.auto.exchanges ∙ c.requires) c.in-None.is
+    never_silent c.carry_out.new.exchanges _ _ c.carry_out.ensures.replied (omega (arith, c.carry_out.auto.exchanges, c.requires)) c.in-None.is
 
 pub returns : goal.returns
 returns c =
@@ -16,6 +16,6 @@ returns c =
     let pair : Option Answer → List ℕ → List Replied = λ a b. (a, b) ∷ [] in
     record {
       replied = ap₂ pair (sym c.in-Some.is) (ap vec_items c.replace-buffer.ensures.value)
-          ∙ sym (one-reply xs c.index-list-0.result c.index-list-0-2.result (c.carry_out.auto.exchanges ∙ c.requires)) ∙ r.replied;
+          ∙ sym (first_of xs c.index-list-0.result c.index-list-0-2.result (omega (arith, c.carry_out.auto.exchanges, c.requires))) ∙ ap (take 1) r.replied;
       post = moved c.args.station.now c.carry_out.new.self _ r.key r.told r.places;
     }
