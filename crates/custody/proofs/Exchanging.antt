@@ -9,10 +9,11 @@ use Rattle.custody.specs.declared.call.Answer.{Answer}
 use Rattle.custody.specs.declared.exchange.Exchange.{Exchange}
 use Rattle.keying.specs.Told.{Told}
 use Rattle.places.specs.Books.{Book}
+use Rattle.places.specs.Replies.{Reply}
 use Rattle.custody.specs.Calls.{answer, after, buffer_after}
 use Rattle.custody.specs.Ledger.{all_after}
 use Rattle.custody.specs.Exchanges.{asked_of, calls_of, replied_of}
-use Rattle.custody.specs.Promise.{given, replies}
+use Rattle.custody.specs.Promise.{Replied, given, replies}
 use Rattle.custody.proofs.Running.{run_more, reply, replies-more}
 
 pub asked_calls : (xs : List Exchange) → map (λ y. y.0) (asked_of xs) ≡ calls_of xs
@@ -71,5 +72,5 @@ module _ (key : Key) (told : Told) (start : Book) (old : List Exchange) (i : ℕ
         ∙ sym (drop-drop 1 i xs) ∙ ap (drop 1) going.rest ∙ drop-drop 1 i old;
   }
     where
-      given-one : Answer × List ℕ → Option Answer × List ℕ
+      given-one : Reply Answer × List ℕ → Replied
       given-one p = (Some p.0, p.1)

@@ -6,6 +6,7 @@ use Rattle.custody.specs.declared.call.Call.{Call}
 use Rattle.custody.specs.declared.call.Answer.{Answer}
 use Rattle.keying.specs.Told.{Told}
 use Rattle.places.specs.Books.{Book, empty_book}
+use Rattle.places.specs.Replies.{Reply}
 use Rattle.custody.specs.Calls.{answer, after, buffer_after}
 use Rattle.custody.specs.Ledger.{Ledger, all_after, blank, entered, entered_all, ledger_of}
 use Rattle.custody.specs.Promise.{Asked, Replied, Kept, Upheld, given, ledger_after, replies}
@@ -32,14 +33,14 @@ module _ (key : Key) (told : Told) where
       ∙ ap (λ l. l.lines) (sym (entered_all_append key told blank past calls)))
 
   -- what one call more is answered
-  abbrev pub reply : Book → Asked → Answer × List ℕ
+  abbrev pub reply : Book → Asked → Reply Answer × List ℕ
   reply book x = (answer key told book x.0 (length x.1), buffer_after key told book x.0 x.1)
 
   pub replies_append : (book : Book) (asked more : List Asked)
       → replies key told book (asked ++ more) ≡ replies key told book asked ++ replies key told (all_after key told book (map (λ y. y.0) asked)) more
   unfolding replies all_after
   replies_append book [] more = refl
-  replies_append book (y ∷ asked) more = ap {B = List (Answer × List ℕ)} (λ w. reply book y ∷ w) (replies_append (after key told book y.0) asked more)
+  replies_append book (y ∷ asked) more = ap {B = List (Reply Answer × List ℕ)} (λ w. reply book y ∷ w) (replies_append (after key told book y.0) asked more)
 
   pub replies-more : (book : Book) (asked : List Asked) (x : Asked)
       → replies key told book (asked ++ x ∷ []) ≡ replies key told book asked ++ reply (all_after key told book (map (λ y. y.0) asked)) x ∷ []

@@ -6,7 +6,7 @@ use Rattle.keying.specs.declared.key.Key.{Key}
 use Rattle.custody.specs.declared.call.Call.{Call}
 use Rattle.custody.specs.declared.call.Call.TheVariants.{Deposit, Join, Trim, Clear, Open, HandOut, Publish, Tell, Alike}
 use Rattle.custody.specs.declared.call.Answer.{Answer}
-use Rattle.custody.specs.declared.call.Answer.TheVariants.{Done, Told as Holds, Likeness, Refused}
+use Rattle.custody.specs.declared.call.Answer.TheVariants.{Done, Told as Holds, Likeness}
 use Rattle.keying.specs.Keys.{h_of}
 use Rattle.keying.specs.Told.{Told}
 use Rattle.places.specs.Books.{Line, Book}
@@ -23,30 +23,30 @@ same_bytes (x ∷ xs) [] = false
 same_bytes (x ∷ xs) (y ∷ ys) = x == y && same_bytes xs ys
 
 -- an obeyed call that answers nothing
-abbrev pub done : {X : Type 0} → Reply X → Answer
-done (Ok x) = Done
-done (Err e) = Refused e
+abbrev pub done : {X : Type 0} → Reply X → Reply Answer
+done (Ok x) = Ok Done
+done (Err e) = Err e
 
 -- what tell answers of a line
 abbrev pub holding : Result Line Refusal → Result Holding Refusal
 holding (Ok a) = Ok (record { width = a.width; allowance = a.allowance })
 holding (Err e) = Err e
 
-abbrev pub told_of : Reply Holding → Answer
-told_of (Ok a) = Holds a.width a.allowance
-told_of (Err e) = Refused e
+abbrev pub told_of : Reply Holding → Reply Answer
+told_of (Ok a) = Ok (Holds a)
+told_of (Err e) = Err e
 
 -- alike: both places open to the same bits
 abbrev pub likeness_reply : Key → Reply (Line × Line) → Reply Bool
 likeness_reply key (Ok p) = Ok (same_bytes (opened key p.0) (opened key p.1))
 likeness_reply key (Err e) = Err e
 
-abbrev pub likeness : Reply Bool → Answer
-likeness (Ok b) = Likeness b
-likeness (Err e) = Refused e
+abbrev pub likeness : Reply Bool → Reply Answer
+likeness (Ok b) = Ok (Likeness b)
+likeness (Err e) = Err e
 
 -- the answer to a call with a buffer of some size
-abbrev pub answer : Key → Told → Book → Call → ℕ → Answer
+abbrev pub answer : Key → Told → Book → Call → ℕ → Reply Answer
 answer key told book (Deposit place width noise message) size = done (deposit key told book place width noise.now message.now)
 answer key told book (Join first second) size = done (join key told book first second)
 answer key told book (Trim place) size = done (trim key told book place)

@@ -1,9 +1,8 @@
 -- A list of exchanges with a station: the calls, what each was handed, and what each was answered.
-use Rattle.std.specs.Prelude.{ℕ, List, Option, map, vec_items}
+use Rattle.std.specs.Prelude.{List, map, vec_items}
 use Rattle.custody.specs.declared.call.Call.{Call}
-use Rattle.custody.specs.declared.call.Answer.{Answer}
 use Rattle.custody.specs.declared.exchange.Exchange.{Exchange}
-use Rattle.custody.specs.Promise.{Asked}
+use Rattle.custody.specs.Promise.{Asked, Replied}
 
 -- the calls
 abbrev pub calls_of : List Exchange → List Call
@@ -14,5 +13,5 @@ abbrev pub asked_of : List Exchange → List Asked
 asked_of xs = map (λ x. (x.call, vec_items x.buffer)) xs
 
 -- the answers with the buffers
-abbrev pub replied_of : List Exchange → List (Option Answer × List ℕ)
+abbrev pub replied_of : List Exchange → List Replied
 replied_of xs = map (λ x. (x.answer, vec_items x.buffer)) xs

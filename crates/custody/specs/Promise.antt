@@ -13,6 +13,7 @@ use Rattle.custody.specs.declared.call.Answer.{Answer}
 use Rattle.keying.specs.Keys.{f_of, g_of, h_of}
 use Rattle.keying.specs.Told.{Told}
 use Rattle.places.specs.Books.{Line, Book, at, empty_book}
+use Rattle.places.specs.Replies.{Reply}
 use Rattle.custody.specs.Checks.{deposit, opened, open_reply}
 use Rattle.custody.specs.Calls.{answer, after, buffer_after}
 use Rattle.custody.specs.Ledger.{Ledger, due, ledger_of}
@@ -49,17 +50,17 @@ Asked = Call × List ℕ
 
 -- an answer and what the buffer holds then
 abbrev pub Replied : Type 0
-Replied = Option Answer × List ℕ
+Replied = Option (Reply Answer) × List ℕ
 
 -- every call is obeyed or declined as in the ledger, with the same number, and its buffer holds what the ledger says
-unfoldable pub replies : Key → Told → Book → List Asked → List (Answer × List ℕ)
+unfoldable pub replies : Key → Told → Book → List Asked → List (Reply Answer × List ℕ)
 replies key told lines [] = []
 replies key told lines (x ∷ asked) =
     (answer key told lines x.0 (length x.1), buffer_after key told lines x.0 x.1)
     ∷ replies key told (after key told lines x.0) asked
 
 -- answers that were given
-abbrev pub given : List (Answer × List ℕ) → List (Option Answer × List ℕ)
+abbrev pub given : List (Reply Answer × List ℕ) → List Replied
 given rs = map (λ p. (Some p.0, p.1)) rs
 
 -- the ledger after the calls that were asked

@@ -1,5 +1,5 @@
-// The calls of a station with their arguments, and their answers.
-use ring::refusal::Refusal;
+// The calls of a station with their arguments, and what they answer where they are obeyed.
+use crate::holding::Holding;
 
 #[derive(Clone, Copy)]
 pub enum Call<'a> {
@@ -35,10 +35,9 @@ pub enum Call<'a> {
     },
 }
 
-#[derive(Clone, Copy)]
+#[derive(Clone, Copy, PartialEq, Eq, Debug)]
 pub enum Answer {
     Done,
-    Told { width: u32, allowance: u16 },
+    Told(Holding),
     Likeness(bool),
-    Refused(Refusal),
 }

@@ -1,5 +1,5 @@
 // What tell answers of a filled place.
-#[derive(Clone, Copy)]
+#[derive(Clone, Copy, PartialEq, Eq, Debug)]
 pub struct Holding {
     pub width: u32,
     pub allowance: u16,

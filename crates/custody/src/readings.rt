@@ -112,19 +112,13 @@ impl<P: RingEngine, Q: RingEngine> Station<P, Q> {
         let n = key.degree;
         let left = secret::message(&mut self.binary, n, &a.coefficients, &key.f, a.width)?;
         let right = secret::message(&mut self.binary, n, &b.coefficients, &key.f, b.width)?;
-        Ok(same(&left, &right, n / 16))
+        Ok(same(&left[0..n / 16], &right[0..n / 16]))
     }
 }
 
-// Whether the first bytes of two arrays are the same.
-fn same(left: &[u8; 64], right: &[u8; 64], count: usize) -> bool
-    requires { count ≤ 64 }
-    ensures { result ≡ same_bytes (take count left.now) (take count right.now) }
+// Whether two messages are the same.
+fn same(left: &[u8], right: &[u8]) -> bool
+    ensures { result ≡ same_bytes left.now right.now }
 {
-    for i in 0..count {
-        if left[i] != right[i] {
-            return false;
-        }
-    }
-    true
+    left == right
 }

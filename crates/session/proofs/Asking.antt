@@ -25,7 +25,7 @@ abbrev zeros : ℕ → List ℕ
 zeros n = replicate n 0
 
 -- what a station answers to a call by its arguments, and what is left then
-abbrev answer_to : Post → Plain → ℕ → Answer
+abbrev answer_to : Post → Plain → ℕ → Reply Answer
 answer_to p (plain.deposit place width noise message) size = done (deposit p.key p.told p.book place width noise message)
 answer_to p (plain.join first second) size = done (join p.key p.told p.book first second)
 answer_to p (plain.trim place) size = done (trim p.key p.told p.book place)
@@ -154,7 +154,7 @@ request_left p (requests.Alike first second) = refl
 
 -- ---- a call that has the arguments of a request
 module _ (p : Post) (request : Request) (call : Call) (same : plain_call call ≡ plain_request request) where
-  pub asked-said : (bytes : Bool) (answer : Answer) (buffer old : List ℕ) (n : ℕ) → bytes ≡ wants_bytes request → n ≡ buffer_length p request → old ≡ zeros n
+  pub asked-said : (bytes : Bool) (answer : Reply Answer) (buffer old : List ℕ) (n : ℕ) → bytes ≡ wants_bytes request → n ≡ buffer_length p request → old ≡ zeros n
       → answer ≡ answer_at p call (length old) → buffer ≡ buffer_at p call old → said_as bytes answer buffer ≡ answered p request
   asked-said bytes answer buffer old n b l z a w =
       ap (λ t. said_as t answer buffer) b

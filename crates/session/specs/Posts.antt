@@ -1,5 +1,6 @@
 -- What a station answers to a call that it is handed, and what it and the call's buffer are afterwards.
 use Rattle.std.specs.Prelude.{ℕ, List, ℤ}
+use Rattle.places.specs.Replies.{Reply}
 use Rattle.custody.specs.declared.call.Call.{Call}
 use Rattle.custody.specs.declared.call.Call.TheVariants.{Deposit, Join, Trim, Clear, Open, HandOut, Publish, Tell, Alike}
 use Rattle.custody.specs.declared.call.Answer.{Answer}
@@ -9,7 +10,7 @@ use Rattle.custody.specs.Promise.{Asked, Replied, given, replies}
 use Rattle.session.specs.Hands.{Post}
 
 -- the answer with a buffer of some size
-abbrev pub answer_at : Post → Call → ℕ → Answer
+abbrev pub answer_at : Post → Call → ℕ → Reply Answer
 answer_at p call size = answer p.key p.told p.book call size
 
 -- the buffer afterwards

@@ -3,7 +3,7 @@ use Rattle.std.specs.Prelude.{ℕ, Bool, cond, List, Ok, Err, vec_items, Result}
 use Rattle.ring.specs.declared.refusal.Refusal.{Refusal}
 use Rattle.reading.specs.declared.fault.Unread.{Unread as Part}
 use Rattle.custody.specs.declared.call.Answer.{Answer as Reply}
-use Rattle.custody.specs.declared.call.Answer.TheVariants.{Done as Obeyed, Told as Held, Likeness as Compared, Refused as Declined}
+use Rattle.custody.specs.declared.call.Answer.TheVariants.{Done as Obeyed, Told as Held, Likeness as Compared}
 use Rattle.script.specs.declared.answer.Answer.{Answer}
 use Rattle.script.specs.declared.answer.Answer.TheVariants.{Done, Refused, Bytes, Row, Told, Likeness, NoSuchEngine, NoDraft, NoStation, Unread}
 
@@ -52,8 +52,8 @@ shown (Ok x) content = bytes (content x)
 shown (Err e) content = refused e
 
 -- what a station answers, with the content of the buffer where that was asked for
-abbrev pub said_as : Bool → Reply → List ℕ → Said
-said_as asked Obeyed content = cond asked (bytes content) done
-said_as asked (Held width allowance) content = holds width allowance
-said_as asked (Compared alike) content = likeness alike
-said_as asked (Declined e) content = refused e
+abbrev pub said_as : Bool → Result Reply Refusal → List ℕ → Said
+said_as asked (Ok Obeyed) content = cond asked (bytes content) done
+said_as asked (Ok (Held a)) content = holds a.width a.allowance
+said_as asked (Ok (Compared alike)) content = likeness alike
+said_as asked (Err e) content = refused e

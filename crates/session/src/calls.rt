@@ -1,6 +1,7 @@
 // The calls of a station as a script asks for them, each handed over as a list of one call with a buffer of its own.
-ghost use Rattle.std.specs.Prelude.{◌≡◌, ◌<◌, [], ◌∷◌, length, take, Some, MatchResult};
+ghost use Rattle.std.specs.Prelude.{◌≡◌, ◌<◌, [], ◌∷◌, length, take, Some, Ok, MatchResult};
 ghost use Rattle.custody.specs.Exchanges.{asked_of, calls_of};
+ghost use Rattle.custody.specs.declared.call.Answer.TheVariants.{Done as Obeyed};
 ghost use Rattle.session.specs.Hands.{post as post_of};
 ghost use Rattle.session.specs.Posts.{answer_at, buffer_at, plain_call, post_at, post_through, replies_at};
 ghost use Rattle.session.specs.Requests.{answered, buffer_length, plain_request, post_after, right_length, wants_bytes};
@@ -10,9 +11,11 @@ use crate::state::Engine;
 use custody::call;
 use custody::call::Call;
 use custody::exchange::Exchange;
+use custody::holding::Holding;
 use custody::station::Station;
 use ring::counting::Counting;
 use ring::engine::RingEngine;
+use ring::refusal::Refusal;
 use ring::turning::Turning;
 use script::answer::Answer;
 use script::request::Request;
@@ -52,13 +55,15 @@ fn call_of(request: &Request) -> Call<'_>
     }
 }
 
-// Whether a request asks for what the buffer is to hold.
-fn wants_bytes(request: &Request) -> bool
-    ensures { result ≡ wants_bytes request.now }
+// What an obeyed request answers: what its buffer holds, where it asks for that.
+fn done(request: &Request, buffer: Vec<u8>) -> Answer
+    ensures { said result ≡ said_as (wants_bytes request.now) (Ok Obeyed) buffer.items }
 {
     match request {
-        Request::Open { .. } | Request::HandOut { .. } | Request::Publish { .. } => true,
-        _ => false,
+        Request::Open { .. } | Request::HandOut { .. } | Request::Publish { .. } => {
+            Answer::Bytes(buffer)
+        }
+        _ => Answer::Done,
     }
 }
 
@@ -86,16 +91,19 @@ fn length_for(station: &Station<Engine, Engine>, request: &Request) -> usize
     }
 }
 
-// What a station answers, with the bytes where they were asked for.
-fn answer_of(bytes: bool, answer: call::Answer, buffer: Vec<u8>) -> Answer
-    ensures { said result ≡ said_as bytes answer buffer.items }
+// What a station replies to a request, with the bytes where they were asked for.
+fn answer_of(
+    request: &Request,
+    reply: Result<call::Answer, Refusal>,
+    buffer: Vec<u8>,
+) -> Answer
+    ensures { said result ≡ said_as (wants_bytes request.now) reply buffer.items }
 {
-    match answer {
-        call::Answer::Done if bytes => Answer::Bytes(buffer),
-        call::Answer::Done => Answer::Done,
-        call::Answer::Told { width, allowance } => Answer::Told { width, allowance },
-        call::Answer::Likeness(alike) => Answer::Likeness(alike),
-        call::Answer::Refused(refusal) => Answer::Refused(refusal),
+    match reply {
+        Ok(call::Answer::Done) => done(request, buffer),
+        Ok(call::Answer::Told(Holding { width, allowance })) => Answer::Told { width, allowance },
+        Ok(call::Answer::Likeness(alike)) => Answer::Likeness(alike),
+        Err(refusal) => Answer::Refused(refusal),
     }
 }
 
@@ -104,7 +112,7 @@ fn first_reply(
     heap: Global,
     station: &mut Station<Engine, Engine>,
     list: &mut [Exchange<'_>],
-) -> (call::Answer, Vec<u8>)
+) -> (Result<call::Answer, Refusal>, Vec<u8>)
     requires { 0 < length list.old }
     ensures replied { (Some result.0, result.1.items) ∷ [] ≡ take 1 (replies_at (post_of station.old) (asked_of list.old)) }
     ensures post { post_of station.new ≡ post_through (post_of station.old) (calls_of list.old) }
@@ -124,7 +132,7 @@ fn exchange(
     station: &mut Station<Engine, Engine>,
     call: Call<'_>,
     buffer: Vec<u8>,
-) -> (call::Answer, Vec<u8>)
+) -> (Result<call::Answer, Refusal>, Vec<u8>)
     ensures answers { result.0 ≡ answer_at (post_of station.old) call.entry (length buffer.items) }
     ensures writes { result.1.items ≡ buffer_at (post_of station.old) call.entry buffer.items }
     ensures post { post_of station.new ≡ post_at (post_of station.old) call.entry }
@@ -147,7 +155,6 @@ pub fn carry_out(
 {
     let length = length_for(station, &request);
     let buffer = vec![in heap; 0u8; length]?;
-    let bytes = wants_bytes(&request);
-    let (answer, buffer) = exchange(heap, station, call_of(&request), buffer);
-    Ok(answer_of(bytes, answer, buffer))
+    let (reply, buffer) = exchange(heap, station, call_of(&request), buffer);
+    Ok(answer_of(&request, reply, buffer))
 }
