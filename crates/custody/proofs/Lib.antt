@@ -3,8 +3,8 @@ pub mod Entering
 pub mod Exchanging
 pub mod Fillings
 pub mod Keeping
+pub mod Keyed
 pub mod Outcomes
 pub mod Performing
 pub mod Running
-pub mod SameBytes
 pub mod SoundLedgers

@@ -1,11 +1,10 @@
 // The calls that leave a station as it is: open, hand out, publish, tell and alike.
-ghost use Rattle.std.specs.Prelude.{◌≡◌, ◌≤◌, length, take};
+ghost use Rattle.std.specs.Prelude.{◌≡◌, length, Ok};
 ghost use Rattle.packing.specs.Digits.{packed};
 ghost use Rattle.custody.specs.Calls.{holding, likeness_reply, same_bytes};
-ghost use Rattle.custody.specs.Checks.{both_held, hand_out as hand_out_reply, held, open_reply, opened, publish as publish_reply};
+ghost use Rattle.custody.specs.Checks.{both_held, hand_out as hand_out_reply, held, keyed, open_reply, opened, publish as publish_reply};
 ghost use Rattle.places.specs.Replies.{plain, written};
 ghost use Rattle.keying.specs.Keys.{h_of};
-ghost use Rattle.keying.specs.Told.{ready};
 ghost use Rattle.custody.specs.Stations.{key_of, told_by, shown_by};
 
 use crate::holding::Holding;
@@ -17,15 +16,16 @@ use ring::refusal::Refusal;
 
 impl<P: RingEngine, Q: RingEngine> Station<P, Q> {
     // Whether a key is there that the engines fit; where there is none, every call is refused with 5.
-    pub(crate) fn keyed(&self) -> bool
-        ensures { result ≡ ready (key_of self.now).degree (told_by P.RingEngine Q.RingEngine self.now) }
+    pub(crate) fn keyed(&self) -> Result<(), Refusal>
+        ensures { result ≡ keyed (key_of self.now) (told_by P.RingEngine Q.RingEngine self.now) (Ok tt) }
     {
         let n = self.register.key.degree;
-        n > 0
+        let fits = n > 0
             && self.field.degree() == n
             && self.binary.degree() == n
             && self.field.modulus() == 3457
-            && self.binary.modulus() == 2048
+            && self.binary.modulus() == 2048;
+        if fits { Ok(()) } else { Err(Refusal::Unkeyed) }
     }
 
     // Writes the message of the nearest words of a place: 5, 6, 8, 2.
@@ -36,9 +36,7 @@ impl<P: RingEngine, Q: RingEngine> Station<P, Q> {
         ensures answers { result ≡ plain (open_reply (key_of self.old) (told_by P.RingEngine Q.RingEngine self.old) (shown_by self.old) place (length out.old)) }
         ensures writes { out.new ≡ written (open_reply (key_of self.old) (told_by P.RingEngine Q.RingEngine self.old) (shown_by self.old) place (length out.old)) (opened (key_of self.old)) out.old }
     {
-        if !self.keyed() {
-            return Err(Refusal::Unkeyed);
-        }
+        self.keyed()?;
         let filled = self.register.filled(place)?;
         let key = self.register.key;
         if out.len() != key.degree / 16 {
@@ -59,12 +57,9 @@ impl<P: RingEngine, Q: RingEngine> Station<P, Q> {
         ensures answers { result ≡ plain (hand_out_reply (key_of self.now) (told_by P.RingEngine Q.RingEngine self.now) (shown_by self.now) place (length out.old)) }
         ensures writes { out.new ≡ written (hand_out_reply (key_of self.now) (told_by P.RingEngine Q.RingEngine self.now) (shown_by self.now) place (length out.old)) (λ a. packed a.width a.coefficients) out.old }
     {
-        if !self.keyed() {
-            return Err(Refusal::Unkeyed);
-        }
+        self.keyed()?;
         let filled = self.register.filled(place)?;
-        let key = self.register.key;
-        outputs::hand_out(&filled, key.degree, out)
+        outputs::hand_out(&filled, self.register.key.degree, out)
     }
 
     // Writes h in 12 bits each: 5, 2.
@@ -72,20 +67,15 @@ impl<P: RingEngine, Q: RingEngine> Station<P, Q> {
         ensures answers { result ≡ publish_reply (key_of self.now) (told_by P.RingEngine Q.RingEngine self.now) (length out.old) }
         ensures writes { out.new ≡ written (publish_reply (key_of self.now) (told_by P.RingEngine Q.RingEngine self.now) (length out.old)) (λ _. packed 12 (h_of (key_of self.now))) out.old }
     {
-        if !self.keyed() {
-            return Err(Refusal::Unkeyed);
-        }
-        let key = self.register.key;
-        outputs::publish(&key, out)
+        self.keyed()?;
+        outputs::publish(&self.register.key, out)
     }
 
     // Answers the width and the allowance of a place: 5, 6, 8.
     pub fn tell(&self, place: usize) -> Result<Holding, Refusal>
         ensures { result ≡ holding (held (key_of self.now) (told_by P.RingEngine Q.RingEngine self.now) (shown_by self.now) place) }
     {
-        if !self.keyed() {
-            return Err(Refusal::Unkeyed);
-        }
+        self.keyed()?;
         let filled = self.register.filled(place)?;
         Ok(Holding {
             width: filled.width.bits(),
@@ -100,9 +90,7 @@ impl<P: RingEngine, Q: RingEngine> Station<P, Q> {
         ensures places { shown_by self.new ≡ shown_by self.old }
         ensures answers { result ≡ likeness_reply (key_of self.old) (both_held (key_of self.old) (told_by P.RingEngine Q.RingEngine self.old) (shown_by self.old) first second) }
     {
-        if !self.keyed() {
-            return Err(Refusal::Unkeyed);
-        }
+        self.keyed()?;
         if first > 7 || second > 7 {
             return Err(Refusal::Place);
         }

@@ -24,9 +24,7 @@ impl<P: RingEngine, Q: RingEngine> Station<P, Q> {
         ensures answers { result ≡ plain (deposit_reply (key_of self.old) (told_by P.RingEngine Q.RingEngine self.old) (shown_by self.old) place width noise.now message.now) }
         ensures places { shown_by self.new ≡ put (shown_by self.old) place (deposit_reply (key_of self.old) (told_by P.RingEngine Q.RingEngine self.old) (shown_by self.old) place width noise.now message.now) }
     {
-        if !self.keyed() {
-            return Err(Refusal::Unkeyed);
-        }
+        self.keyed()?;
         let width = self.register.vacant(place, width, noise, message)?;
         let key = self.register.key;
         let filled = lines::deposited(
@@ -48,9 +46,7 @@ impl<P: RingEngine, Q: RingEngine> Station<P, Q> {
         ensures answers { result ≡ plain (join_reply (key_of self.old) (told_by P.RingEngine Q.RingEngine self.old) (shown_by self.old) first second) }
         ensures places { shown_by self.new ≡ emptied (put (shown_by self.old) first (join_reply (key_of self.old) (told_by P.RingEngine Q.RingEngine self.old) (shown_by self.old) first second)) second (join_reply (key_of self.old) (told_by P.RingEngine Q.RingEngine self.old) (shown_by self.old) first second) }
     {
-        if !self.keyed() {
-            return Err(Refusal::Unkeyed);
-        }
+        self.keyed()?;
         self.register.join(first, second)
     }
 
@@ -61,9 +57,7 @@ impl<P: RingEngine, Q: RingEngine> Station<P, Q> {
         ensures answers { result ≡ plain (trim_reply (key_of self.old) (told_by P.RingEngine Q.RingEngine self.old) (shown_by self.old) place) }
         ensures places { shown_by self.new ≡ put (shown_by self.old) place (trim_reply (key_of self.old) (told_by P.RingEngine Q.RingEngine self.old) (shown_by self.old) place) }
     {
-        if !self.keyed() {
-            return Err(Refusal::Unkeyed);
-        }
+        self.keyed()?;
         let filled = self.register.filled(place)?;
         let Some(width) = filled.width.narrower() else {
             return Err(Refusal::Width);
@@ -81,9 +75,7 @@ impl<P: RingEngine, Q: RingEngine> Station<P, Q> {
         ensures answers { result ≡ plain (held (key_of self.old) (told_by P.RingEngine Q.RingEngine self.old) (shown_by self.old) place) }
         ensures places { shown_by self.new ≡ emptied (shown_by self.old) place (held (key_of self.old) (told_by P.RingEngine Q.RingEngine self.old) (shown_by self.old) place) }
     {
-        if !self.keyed() {
-            return Err(Refusal::Unkeyed);
-        }
+        self.keyed()?;
         self.register.filled(place)?;
         self.register.empty(place);
         Ok(())

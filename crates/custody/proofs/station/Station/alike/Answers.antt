@@ -1,12 +1,12 @@
 use Rattle.std.proofs.Common.{sym, ◌∙◌}
-use Rattle.keying.proofs.Tellings.{ready_is}
 use Rattle.places.proofs.RowParts.{filled-below}
+use Rattle.custody.proofs.Keyed.{keyed_is}
 use Rattle.custody.proofs.station.Station.alike.Goals as goal
 
 pub message-requires : goal.message-requires
 message-requires g c =
     let key = c.args.self.now.register.key in
-    let r = ready_is key.degree _ (sym c.keyed.ensures ∙ c.if-not-keyed.false) in
+    let r = keyed_is key _ _ (sym c.keyed.ensures ∙ c.in_ok-keyed.was) in
     record {
       engine = (r.binary_degree ∙ r.field_degree, r.binary_modulus, key.size.1, r.some);
       row = filled-below key.degree c.in_ok-a.a;
@@ -15,7 +15,7 @@ message-requires g c =
 pub message-requires-2 : goal.message-requires-2
 message-requires-2 g c =
     let key = c.args.self.now.register.key in
-    let r = ready_is key.degree _ (sym c.keyed.ensures ∙ c.if-not-keyed.false) in
+    let r = keyed_is key _ _ (sym c.keyed.ensures ∙ c.in_ok-keyed.was) in
     let one = c.in_ok-left.ensures in
     record {
       engine = (one.sized ∙ r.binary_degree ∙ r.field_degree, one.modular ∙ r.binary_modulus, key.size.1, r.some);
