@@ -38,7 +38,7 @@ impl<P: RingEngine, Q: RingEngine> Station<P, Q> {
     {
         self.keyed()?;
         let filled = self.register.filled(place)?;
-        let key = self.register.key;
+        let key = &self.register.key;
         if out.len() != key.degree / 16 {
             return Err(Refusal::Length);
         }
@@ -96,7 +96,7 @@ impl<P: RingEngine, Q: RingEngine> Station<P, Q> {
         }
         let a = self.register.filled(first)?;
         let b = self.register.filled(second)?;
-        let key = self.register.key;
+        let key = &self.register.key;
         let n = key.degree;
         let left = secret::message(&mut self.binary, n, &a.coefficients, &key.f, a.width)?;
         let right = secret::message(&mut self.binary, n, &b.coefficients, &key.f, b.width)?;

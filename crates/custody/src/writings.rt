@@ -26,11 +26,10 @@ impl<P: RingEngine, Q: RingEngine> Station<P, Q> {
     {
         self.keyed()?;
         let width = self.register.vacant(place, width, noise, message)?;
-        let key = self.register.key;
         let filled = lines::deposited(
             &mut self.field,
             &mut self.binary,
-            &key,
+            &self.register.key,
             width,
             noise,
             message,
@@ -59,11 +58,8 @@ impl<P: RingEngine, Q: RingEngine> Station<P, Q> {
     {
         self.keyed()?;
         let filled = self.register.filled(place)?;
-        let Some(width) = filled.width.narrower() else {
-            return Err(Refusal::Width);
-        };
-        let key = self.register.key;
-        let shorter = lines::shortened(&mut self.binary, &key, filled, width)?;
+        let width = filled.width.narrower().ok_or(Refusal::Width)?;
+        let shorter = lines::shortened(&mut self.binary, &self.register.key, filled, width)?;
         self.register.fill(place, shorter);
         Ok(())
     }
