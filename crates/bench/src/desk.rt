@@ -3,6 +3,7 @@ use crate::calls;
 use anyhow::anyhow;
 use custody::call::{Answer, Call};
 use custody::exchange::Exchange;
+use custody::holding::Holding;
 use custody::station::Station;
 use keying::draft::Draft;
 use ring::counting::Counting;
@@ -18,10 +19,8 @@ pub fn at_zero(value: i16) -> [i16; 16] {
 
 // An engine of degree 16 that counts its products.
 fn engine(modulus: u16) -> anyhow::Result<Counting<Turning>> {
-    match Turning::new(16, modulus) {
-        Some(turning) => Ok(Counting::new(turning)),
-        None => Err(anyhow!("no such engine")),
-    }
+    let turning = Turning::new(16, modulus).ok_or_else(|| anyhow!("no such engine"))?;
+    Ok(Counting::new(turning))
 }
 
 #[derive(Drop)]
@@ -49,7 +48,7 @@ impl Desk {
     }
 
     // Asks one call with a buffer for what it writes.
-    pub fn ask(&mut self, call: Call<'_>, buffer: &mut [u8]) -> Answer {
+    pub fn ask(&mut self, call: Call<'_>, buffer: &mut [u8]) -> Result<Answer, Refusal> {
         self.station.perform(call, buffer)
     }
 
@@ -60,26 +59,17 @@ impl Desk {
 
     // Whether a call that writes nothing is obeyed.
     pub fn obeys(&mut self, call: Call<'_>) -> bool {
-        is_done(self.ask(call, &mut []))
+        self.ask(call, &mut []) == Ok(Answer::Done)
     }
 
     // Whether a call is refused with this refusal.
     pub fn refuses(&mut self, call: Call<'_>, refusal: Refusal) -> bool {
-        match self.ask(call, &mut []) {
-            Answer::Refused(given) => given == refusal,
-            _ => false,
-        }
+        self.ask(call, &mut []) == Err(refusal)
     }
 
     // Whether a place has this width and this allowance.
     pub fn has(&mut self, place: usize, width: u32, allowance: u16) -> bool {
-        match self.ask(calls::tell(place), &mut []) {
-            Answer::Told {
-                width: told,
-                allowance: allowed,
-            } => told == width && allowed == allowance,
-            _ => false,
-        }
+        self.ask(calls::tell(place), &mut []) == Ok(Answer::Told(Holding { width, allowance }))
     }
 
     // Whether a deposit of the zero message is obeyed and gets this allowance.
@@ -90,13 +80,5 @@ impl Desk {
     // Whether a place is empty.
     pub fn is_empty(&mut self, place: usize) -> bool {
         self.refuses(calls::tell(place), Refusal::Empty)
-    }
-}
-
-// Whether a call was obeyed and answers nothing more.
-pub fn is_done(answer: Answer) -> bool {
-    match answer {
-        Answer::Done => true,
-        _ => false,
     }
 }

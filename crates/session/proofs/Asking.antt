@@ -154,11 +154,10 @@ request_left p (requests.Alike first second) = refl
 
 -- ---- a call that has the arguments of a request
 module _ (p : Post) (request : Request) (call : Call) (same : plain_call call ≡ plain_request request) where
-  pub asked-said : (bytes : Bool) (answer : Reply Answer) (buffer old : List ℕ) (n : ℕ) → bytes ≡ wants_bytes request → n ≡ buffer_length p request → old ≡ zeros n
-      → answer ≡ answer_at p call (length old) → buffer ≡ buffer_at p call old → said_as bytes answer buffer ≡ answered p request
-  asked-said bytes answer buffer old n b l z a w =
-      ap (λ t. said_as t answer buffer) b
-      ∙ ap₂ (said_as (wants_bytes request))
+  pub asked-said : (answer : Reply Answer) (buffer old : List ℕ) (n : ℕ) → n ≡ buffer_length p request → old ≡ zeros n
+      → answer ≡ answer_at p call (length old) → buffer ≡ buffer_at p call old → said_as (wants_bytes request) answer buffer ≡ answered p request
+  asked-said answer buffer old n l z a w =
+      ap₂ (said_as (wants_bytes request))
       (a ∙ answer_is p call (length old)
       ∙ ap₂ (answer_to p) same (ap length z ∙ length-replicate {A = ℕ} n 0 ∙ l))
       (w ∙ buffer_is p call old ∙ ap₂ (buffer_to p) same (z ∙ ap zeros l))

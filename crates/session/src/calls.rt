@@ -92,11 +92,7 @@ fn length_for(station: &Station<Engine, Engine>, request: &Request) -> usize
 }
 
 // What a station replies to a request, with the bytes where they were asked for.
-fn answer_of(
-    request: &Request,
-    reply: Result<call::Answer, Refusal>,
-    buffer: Vec<u8>,
-) -> Answer
+fn answer_of(request: &Request, reply: Result<call::Answer, Refusal>, buffer: Vec<u8>) -> Answer
     ensures { said result ≡ said_as (wants_bytes request.now) reply buffer.items }
 {
     match reply {

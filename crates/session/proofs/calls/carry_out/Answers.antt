@@ -12,9 +12,9 @@ returns c =
     let n = c.length_for-length.result in
     let old = vec_items c.in_ok-buffer.buffer in
     let zeros : old ≡ replicate {A = ℕ} n 0 = c.in_ok-buffer.ensures.items_if_clones_equal (λ y e. e) in
-    let r = c.exchange-answer.ensures in (
+    let r = c.exchange-reply.ensures in (
       c.answer_of.ensures
-          ∙ asked-said p request call same c.wants_bytes-bytes.result c.exchange-answer.result.0 (vec_items c.exchange-answer.result.1) old n
-          c.wants_bytes-bytes.ensures c.length_for-length.ensures zeros r.answers r.writes,
+          ∙ asked-said p request call same c.exchange-reply.result.0 (vec_items c.exchange-reply.result.1) old n
+          c.length_for-length.ensures zeros r.answers r.writes,
       asked-left p request call same _ r.post,
     )
