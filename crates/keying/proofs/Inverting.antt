@@ -9,7 +9,7 @@ use Rattle.ring.specs.Engines.{residues, numbers, product_to, product_mod}
 use Rattle.ring.specs.Residues.{reduced}
 use Rattle.ring.specs.Rows.{product, unit}
 use Rattle.ring.specs.Wholes.{residue}
-use Rattle.ring.proofs.Products.{product-assoc, product-unit}
+use Rattle.ring.proofs.Products.{product-assoc, product-comm, product-unit}
 use Rattle.inversion.specs.Leading.{F, field}
 use Rattle.inversion.specs.Inverse.{refused, Inverse, NoInverseOf}
 use Rattle.wrapping.specs.Buffers.{over}
@@ -66,6 +66,13 @@ pub no_other : (n places : ℕ) (e : Refusal) → 0 < n → n ≤ 1024 → place
 no_other n places e some small same c =
     let none : refused n places ≡ None = grind (arith, nat_tests) in
     MatchOption-at_none (e ≡ NoInverse) (λ (d : Refusal). ◌≡◌ {A = Result (Unit {0}) Refusal} (Err e) (Err d)) none c
+
+-- u times g is g times u
+pub swapped : (n : ℕ) (u : List ℕ) (g : List ℤ) → 0 < n → length u ≡ n → length g ≡ n → product_mod 3457 n u (reduced_row 3457 g) ≡ product_mod 3457 n (reduced_row 3457 g) u
+unfolding product_to
+swapped n u g some lu lg =
+    ap numbers (product-comm field n some (residues 3456 u) (residues 3456 (reduced_row 3457 g)) (length-map u (reduced 3456) ∙ lu)
+    (length-map (reduced_row 3457 g) (reduced 3456) ∙ length-map g (residue 3457) ∙ lg))
 
 -- h times f is g
 pub ties : (n : ℕ) (f g : List ℤ) (u h : List ℕ) → 0 < n → length f ≡ n → length g ≡ n → Inverts n f u → h ≡ product_mod 3457 n (reduced_row 3457 g) u

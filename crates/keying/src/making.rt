@@ -10,11 +10,11 @@ ghost use Rattle.keying.specs.Drafts.{told_by};
 use crate::draft::Draft;
 use crate::inverse::inverse_of;
 use crate::key::Key;
-use products::multiply::multiply;
 use products::padding::padded;
+use products::small;
 use ring::engine::{MAX_DEGREE, RingEngine};
 use ring::refusal::Refusal;
-use wrapping::secret::{is_small, reduce};
+use wrapping::secret::is_small;
 
 impl<P, Q> Draft<P, Q> {
     // A draft that is not keyed yet, whatever its engines tell.
@@ -40,7 +40,7 @@ impl<P: RingEngine, Q: RingEngine> Draft<P, Q> {
         self.check(f, g)?;
         let mut u = [0; 1024];
         inverse_of(f, &mut u)?;
-        let h = public_row(&mut self.field, f.len(), g, &u)?;
+        let h = small::times(&mut self.field, f.len(), &u, g)?;
         self.key = Key::made(f, g, h);
         Ok(())
     }
@@ -64,27 +64,6 @@ impl<P: RingEngine, Q: RingEngine> Draft<P, Q> {
         }
         Ok(())
     }
-}
-
-// g times u modulo 3457, with zeros past its end.
-fn public_row<P: RingEngine>(
-    engine: &mut P,
-    n: usize,
-    g: &[i16],
-    u: &[u16; 1024],
-) -> Result<[u16; 1024], Refusal>
-    requires engine { (P.degree engine.old ≡ n) × (P.modulus engine.old ≡ 3457) × (n ≤ 1024) }
-    requires rows { (length g.now ≡ n) × (all_below 3457 (take n u.now) ≡ true) }
-    ensures sized { P.degree engine.new ≡ P.degree engine.old }
-    ensures modular { P.modulus engine.new ≡ P.modulus engine.old }
-    ensures obeyed { is_ok result ≡ true }
-    ensures value { IfOk result (λ h. (take n h ≡ product_mod 3457 n (reduced_row 3457 g.now) (take n u.now)) × Cut 0 n h) }
-{
-    let mut residues = [0; 1024];
-    reduce::<3456>(g, &mut residues);
-    let mut h = [0; 1024];
-    multiply(engine, n, &residues, u, &mut h)?;
-    Ok(h)
 }
 
 impl Key {

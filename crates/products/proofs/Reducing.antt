@@ -54,10 +54,9 @@ pub front_below : (m k : ℕ) (row : List ℕ) (zs : List ℤ) → m ≡ k → 0
 front_below m k row zs e h r = ap₂ all_below e r ∙ reduced-all_below k zs h
 
 -- h times the noise
-pub sigma_is : (m n : ℕ) (out h noise-row : List ℕ) (noise : List ℤ) → m ≡ 3457 → all_below 3457 h ≡ true → noise-row ≡ reduced_row 3457 noise
-    → out ≡ product_mod m n h noise-row → out ≡ sigma n h noise
+pub sigma_is : (n : ℕ) (h : List ℕ) (noise : List ℤ) → all_below 3457 h ≡ true → product_mod 3457 n h (reduced_row 3457 noise) ≡ sigma n h noise
 unfolding sigma
-sigma_is m n out h row noise e t r p = p ∙ ap₂ (λ (k : ℕ) (x : List ℕ). product_mod k n h x) e r ∙ reduced-product 3456 n h noise t
+sigma_is n h noise t = reduced-product 3456 n h noise t
 
 -- c times f
 pub measured_is : (m n : ℕ) (out c secret_row : List ℕ) (f : List ℤ) → m ≡ 2048 → all_below 2048 c ≡ true → secret_row ≡ reduced_row 2048 (secret f)

@@ -6,3 +6,4 @@ pub mod multiply;
 pub mod noise;
 pub mod padding;
 pub mod secret;
+pub mod small;

@@ -1,12 +1,11 @@
-// The product that a wrapping is made of: a published row times noise, modulo 3457.
+// The row that a wrapping is made of: a published row times noise, modulo 3457.
 ghost use Rattle.std.specs.Prelude.{◌≡◌, ◌≤◌, true, length, take, is_ok, IfOk};
 ghost use Rattle.ring.specs.Engines.{all_below};
 ghost use Rattle.wrapping.specs.Wraps.{sigma as sigma_of};
 
-use crate::multiply::multiply;
+use crate::small;
 use ring::engine::RingEngine;
 use ring::refusal::Refusal;
-use wrapping::secret::reduce;
 
 // h times the noise, modulo 3457.
 pub fn sigma<P: RingEngine>(
@@ -22,9 +21,5 @@ pub fn sigma<P: RingEngine>(
     ensures obeyed { is_ok result ≡ true }
     ensures value { IfOk result (λ row. take n row ≡ sigma_of n (take n h.now) noise.now) }
 {
-    let mut residues = [0u16; 1024];
-    reduce::<3456>(noise, &mut residues);
-    let mut out = [0u16; 1024];
-    multiply(engine, n, h, &residues, &mut out)?;
-    Ok(out)
+    small::times(engine, n, h, noise)
 }
