@@ -42,8 +42,9 @@ impl Desk {
 
     // How many products both engines did so far.
     pub fn products(&self) -> u64 {
-        let field = self.station.field().count();
-        let binary = self.station.binary().count();
+        let engines = self.station.engines();
+        let field = engines.field.count();
+        let binary = engines.binary.count();
         field.wrapping_add(binary)
     }
 

@@ -10,7 +10,7 @@ abbrev pub key_of : {P Q : Type 0} → Station P Q → Key
 key_of station = station.register.key
 
 abbrev pub told_by : {P Q : Type 0} → Engine P → Engine Q → Station P Q → Told
-told_by p q station = telling p q station.field station.binary
+told_by p q station = telling p q station.engines.field station.engines.binary
 
 abbrev pub shown_by : {P Q : Type 0} → Station P Q → Book
 shown_by station = book station.register

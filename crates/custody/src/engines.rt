@@ -2,19 +2,13 @@
 ghost use Rattle.std.specs.Prelude.{◌≡◌};
 
 use crate::station::Station;
+use keying::engines::Engines;
 
 impl<P, Q> Station<P, Q> {
-    // The engine modulo 3457.
-    pub fn field(&self) -> &P
-        ensures { result.now ≡ self.now.field }
+    // The engines, to be looked at.
+    pub fn engines(&self) -> &Engines<P, Q>
+        ensures { result.now ≡ self.now.engines }
     {
-        &self.field
-    }
-
-    // The engine modulo 2048.
-    pub fn binary(&self) -> &Q
-        ensures { result.now ≡ self.now.binary }
-    {
-        &self.binary
+        &self.engines
     }
 }

@@ -18,15 +18,13 @@ impl<P: RingEngine, Q: RingEngine> Station<P, Q> {
     // Gives up a draft for a station with the same key and engines and eight empty places.
     pub fn commission(draft: Draft<P, Q>) -> Station<P, Q>
         ensures key { key_of result ≡ draft.key }
-        ensures field { result.field ≡ draft.field }
-        ensures binary { result.binary ≡ draft.binary }
+        ensures engines { result.engines ≡ draft.engines }
         ensures places { shown_by result ≡ empty_book }
     {
-        let (key, field, binary) = draft.into_parts();
+        let (key, engines) = draft.into_parts();
         Station {
             register: Register::new(key),
-            field,
-            binary,
+            engines,
         }
     }
 

@@ -20,12 +20,11 @@ impl<P: RingEngine, Q: RingEngine> Station<P, Q> {
         ensures { result ≡ keyed (key_of self.now) (told_by P.RingEngine Q.RingEngine self.now) (Ok tt) }
     {
         let n = self.register.key.degree;
-        let fits = n > 0
-            && self.field.degree() == n
-            && self.binary.degree() == n
-            && self.field.modulus() == 3457
-            && self.binary.modulus() == 2048;
-        if fits { Ok(()) } else { Err(Refusal::Unkeyed) }
+        if n > 0 && self.engines.fit(n) {
+            Ok(())
+        } else {
+            Err(Refusal::Unkeyed)
+        }
     }
 
     // Writes the message of the nearest words of a place: 5, 6, 8, 2.
@@ -43,7 +42,7 @@ impl<P: RingEngine, Q: RingEngine> Station<P, Q> {
             return Err(Refusal::Length);
         }
         secret::decode(
-            &mut self.binary,
+            &mut self.engines.binary,
             key.degree,
             &filled.coefficients,
             &key.f,
@@ -98,8 +97,8 @@ impl<P: RingEngine, Q: RingEngine> Station<P, Q> {
         let b = self.register.filled(second)?;
         let key = &self.register.key;
         let n = key.degree;
-        let left = secret::message(&mut self.binary, n, &a.coefficients, &key.f, a.width)?;
-        let right = secret::message(&mut self.binary, n, &b.coefficients, &key.f, b.width)?;
+        let left = secret::message(&mut self.engines.binary, n, &a.coefficients, &key.f, a.width)?;
+        let right = secret::message(&mut self.engines.binary, n, &b.coefficients, &key.f, b.width)?;
         Ok(same(&left[0..n / 16], &right[0..n / 16]))
     }
 }

@@ -1,9 +1,9 @@
 // A station: a key that stays, eight places, and two engines.
+use keying::engines::Engines;
 use places::register::Register;
 
 #[derive(Drop)]
 pub struct Station<P, Q> {
     pub(crate) register: Register,
-    pub(crate) field: P,
-    pub(crate) binary: Q,
+    pub(crate) engines: Engines<P, Q>,
 }

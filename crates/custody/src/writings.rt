@@ -27,8 +27,7 @@ impl<P: RingEngine, Q: RingEngine> Station<P, Q> {
         self.keyed()?;
         let width = self.register.vacant(place, width, noise, message)?;
         let filled = lines::deposited(
-            &mut self.field,
-            &mut self.binary,
+            &mut self.engines,
             &self.register.key,
             width,
             noise,
@@ -59,7 +58,7 @@ impl<P: RingEngine, Q: RingEngine> Station<P, Q> {
         self.keyed()?;
         let filled = self.register.filled(place)?;
         let width = filled.width.narrower().ok_or(Refusal::Width)?;
-        let shorter = lines::shortened(&mut self.binary, &self.register.key, filled, width)?;
+        let shorter = lines::shortened(&mut self.engines.binary, &self.register.key, filled, width)?;
         self.register.fill(place, shorter);
         Ok(())
     }

@@ -4,4 +4,4 @@ use Rattle.keying.specs.declared.draft.Draft.{Draft}
 use Rattle.keying.specs.Told.{Told, telling}
 
 abbrev pub told_by : {P Q : Type 0} → Engine P → Engine Q → Draft P Q → Told
-told_by p q draft = telling p q draft.field draft.binary
+told_by p q draft = telling p q draft.engines.field draft.engines.binary

@@ -12,6 +12,10 @@ pub record Told : Type 0 where
 abbrev pub paired : Told → Bool
 paired told = told.binary_degree == told.field_degree && (told.field_modulus == 3457 && told.binary_modulus == 2048)
 
+-- the engines fit degree n
+abbrev pub fit : ℕ → Told → Bool
+fit n told = told.field_degree == n && paired told
+
 -- a key of degree n can be used with them
 abbrev pub ready : ℕ → Told → Bool
 ready n told = (nat_lt 0 n && told.field_degree == n) && paired told

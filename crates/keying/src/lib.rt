@@ -2,6 +2,7 @@
 #![tactic(auto)]
 
 pub mod draft;
+pub mod engines;
 mod inverse;
 pub mod key;
 mod making;

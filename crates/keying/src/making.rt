@@ -8,6 +8,7 @@ ghost use Rattle.keying.specs.Keys.{f_of, g_of};
 ghost use Rattle.keying.specs.Drafts.{told_by};
 
 use crate::draft::Draft;
+use crate::engines::Engines;
 use crate::inverse::inverse_of;
 use crate::key::Key;
 use products::padding::padded;
@@ -20,13 +21,12 @@ impl<P, Q> Draft<P, Q> {
     // A draft that is not keyed yet, whatever its engines tell.
     pub fn new(field: P, binary: Q) -> Draft<P, Q>
         ensures key { Unkeyed result.key }
-        ensures field { result.field ≡ field }
-        ensures binary { result.binary ≡ binary }
+        ensures field { result.engines.field ≡ field }
+        ensures binary { result.engines.binary ≡ binary }
     {
         Draft {
             key: Key::unkeyed(),
-            field,
-            binary,
+            engines: Engines { field, binary },
         }
     }
 }
@@ -40,7 +40,7 @@ impl<P: RingEngine, Q: RingEngine> Draft<P, Q> {
         self.check(f, g)?;
         let mut u = [0; 1024];
         inverse_of(f, &mut u)?;
-        let h = small::times(&mut self.field, f.len(), &u, g)?;
+        let h = small::times(&mut self.engines.field, f.len(), &u, g)?;
         self.key = Key::made(f, g, h);
         Ok(())
     }
@@ -49,11 +49,8 @@ impl<P: RingEngine, Q: RingEngine> Draft<P, Q> {
     fn check(&self, f: &[i16], g: &[i16]) -> Result<(), Refusal>
         ensures { result ≡ keying_check (told_by P.RingEngine Q.RingEngine self.now) f.now g.now }
     {
-        let n = self.field.degree();
-        if n > MAX_DEGREE || self.binary.degree() != n {
-            return Err(Refusal::Mismatch);
-        }
-        if self.field.modulus() != 3457 || self.binary.modulus() != 2048 {
+        let n = self.engines.field.degree();
+        if n > MAX_DEGREE || !self.engines.fit(n) {
             return Err(Refusal::Mismatch);
         }
         if f.len() != n || g.len() != n {

@@ -2,28 +2,22 @@
 ghost use Rattle.std.specs.Prelude.{◌≡◌};
 
 use crate::draft::Draft;
+use crate::engines::Engines;
 use crate::key::Key;
 
 impl<P, Q> Draft<P, Q> {
-    // The engine modulo 3457.
-    pub fn field(&self) -> &P
-        ensures { result.now ≡ self.now.field }
+    // The engines, to be looked at.
+    pub fn engines(&self) -> &Engines<P, Q>
+        ensures { result.now ≡ self.now.engines }
     {
-        &self.field
-    }
-
-    // The engine modulo 2048.
-    pub fn binary(&self) -> &Q
-        ensures { result.now ≡ self.now.binary }
-    {
-        &self.binary
+        &self.engines
     }
 
     // Gives up the draft for its key and its engines.
-    pub fn into_parts(self) -> (Key, P, Q)
-        ensures { result ≡ (self.key, self.field, self.binary) }
+    pub fn into_parts(self) -> (Key, Engines<P, Q>)
+        ensures { result ≡ (self.key, self.engines) }
     {
-        let Draft { key, field, binary } = self;
-        (key, field, binary)
+        let Draft { key, engines } = self;
+        (key, engines)
     }
 }

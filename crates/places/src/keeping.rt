@@ -41,10 +41,7 @@ impl Register {
     pub fn filled(&self, place: usize) -> Result<Filled, Refusal>
         ensures { lined self.now.key.degree result ≡ found (book self.now) place }
     {
-        match self.held(place)? {
-            Some(filled) => Ok(filled),
-            None => Err(Refusal::Empty),
-        }
+        self.held(place)?.ok_or(Refusal::Empty)
     }
 
     // What a deposit looks at before it wraps: 6, 7, 11, 2, 3.
@@ -105,7 +102,7 @@ impl Register {
         }
         let a = self.filled(first)?;
         let b = self.filled(second)?;
-        if a.width.bits() != b.width.bits() {
+        if a.width != b.width {
             return Err(Refusal::Unequal);
         }
         lines::together(a, b)
@@ -133,8 +130,5 @@ fn deposit_width(bits: u32) -> Result<Width, Refusal>
     if bits < 9 {
         return Err(Refusal::Width);
     }
-    match Width::new(bits) {
-        Some(width) => Ok(width),
-        None => Err(Refusal::Width),
-    }
+    Width::new(bits).ok_or(Refusal::Width)
 }

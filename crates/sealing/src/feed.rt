@@ -89,10 +89,7 @@ fn suited(lowest: u32, wanted: u16, n: usize, m: u16, width: u32) -> Result<Widt
     if width < lowest {
         return Err(Refusal::Width);
     }
-    match Width::new(width) {
-        Some(width) => Ok(width),
-        None => Err(Refusal::Width),
-    }
+    Width::new(width).ok_or(Refusal::Width)
 }
 
 // Reads the row of a published key; what unpacking refuses is refused.

@@ -43,9 +43,9 @@ post-of key told book = record { key = key; told = told; book = book }
 
 -- a station with the key and the engines of another, and with some book
 pub moved : (before after : Station Engine Engine) (next : Book) → key_of after ≡ key_of before
-    → told_of after.field after.binary ≡ told_of before.field before.binary → shown_by after ≡ next
-    → post after ≡ post-of (key_of before) (told_of before.field before.binary) next
-moved before after next k t b = ap₂ (λ x y. post-of x y (shown_by after)) k t ∙ ap (post-of (key_of before) (told_of before.field before.binary)) b
+    → told_of after.engines.field after.engines.binary ≡ told_of before.engines.field before.engines.binary → shown_by after ≡ next
+    → post after ≡ post-of (key_of before) (told_of before.engines.field before.engines.binary) next
+moved before after next k t b = ap₂ (λ x y. post-of x y (shown_by after)) k t ∙ ap (post-of (key_of before) (told_of before.engines.field before.engines.binary)) b
 
 abbrev hand_of : ℕ → Option Sketch → Option Post → Hand
 hand_of degree draft station = record { degree = degree; draft = draft; station = station }
@@ -56,7 +56,7 @@ sketch_of key told = record { key = key; told = told }
 -- a new draft over two engines
 pub began : (field binary : Turning) (first second : Engine) (draft : Draft Engine Engine) (degree : ℕ)
     → degree ≡ field.degree → first.below ≡ field → second.below ≡ binary
-    → Unkeyed draft.key → draft.field ≡ first → draft.binary ≡ second
+    → Unkeyed draft.key → draft.engines.field ≡ first → draft.engines.binary ≡ second
     → Begun (tells field.degree field.modulus binary.degree binary.modulus) (at_hand (record { degree = degree; draft = Some draft; station = None }))
 began field binary first second draft degree d over over' unkeyed f b = record {
   degree = d;
@@ -71,8 +71,8 @@ began field binary first second draft degree d over over' unkeyed f b = record {
 -- a draft that was tried
 pub tried : (session : Session) (draft draft' : Draft Engine Engine) (reply : Reply (Unit {0})) (f g : List ℤ) (s : Said)
     → session.draft ≡ Some draft
-    → told_of draft'.field draft'.binary ≡ told_of draft.field draft.binary
-    → Keying (told_of draft.field draft.binary) f g draft.key draft'.key reply
+    → told_of draft'.engines.field draft'.engines.binary ≡ told_of draft.engines.field draft.engines.binary
+    → Keying (told_of draft.engines.field draft.engines.binary) f g draft.key draft'.key reply
     → s ≡ obeyed reply
     → MatchOption (at_hand session).draft (Only no_draft (at_hand session) s (at_hand (record { degree = session.degree; draft = Some draft'; station = session.station })))
     (λ was. Tried was f g (at_hand session) s (at_hand (record { degree = session.degree; draft = Some draft'; station = session.station })))

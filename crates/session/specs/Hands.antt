@@ -32,10 +32,10 @@ abbrev pub told_of : Counting Turning → Counting Turning → Told
 told_of field binary = tells field.below.degree field.below.modulus binary.below.degree binary.below.modulus
 
 abbrev pub sketch : Draft (Counting Turning) (Counting Turning) → Sketch
-sketch draft = record { key = draft.key; told = told_of draft.field draft.binary }
+sketch draft = record { key = draft.key; told = told_of draft.engines.field draft.engines.binary }
 
 abbrev pub post : Station (Counting Turning) (Counting Turning) → Post
-post station = record { key = key_of station; told = told_of station.field station.binary; book = shown_by station }
+post station = record { key = key_of station; told = told_of station.engines.field station.engines.binary; book = shown_by station }
 
 abbrev pub at_hand : Session → Hand
 at_hand session = record {

@@ -72,7 +72,7 @@ fn right_length(station: &Station<Engine, Engine>, place: usize) -> usize
     ensures { result ≡ right_length (post_of station.now) place }
 {
     match station.tell(place) {
-        Ok(holding) => station.field().degree() * holding.width as usize / 8,
+        Ok(holding) => station.engines().field.degree() * holding.width as usize / 8,
         Err(_) => 0,
     }
 }

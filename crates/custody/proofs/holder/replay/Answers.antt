@@ -1,11 +1,10 @@
 use Rattle.std.proofs.Common.{◌≡◌, [], ap, ◌∙◌, subst, ap₂}
 use Rattle.custody.specs.Exchanges.{asked_of, calls_of, replied_of}
 use Rattle.custody.specs.Promise.{Kept, Upheld, given, replies}
-use Rattle.keying.specs.Told.{Told}
+use Rattle.keying.specs.Told.{Told, telling}
 use Rattle.keying.specs.Drafts.{told_by as drafted}
 use Rattle.custody.specs.Stations.{key_of, told_by, shown_by}
 use Rattle.custody.proofs.Running.{kept_start, upheld_start}
-use Rattle.keying.proofs.Tellings.{tells-same}
 use Rattle.custody.proofs.holder.replay.Goals as goal
 
 pub returns : goal.returns
@@ -19,7 +18,7 @@ returns g c =
     let xs = c.args.exchanges.now in
     let T : Told = drafted P Q d in
     let first : Told = told_by P Q s in
-    let same : first ≡ T = tells-same (ap P.degree p.field) (ap P.modulus p.field) (ap Q.degree p.binary) (ap Q.modulus p.binary) in
+    let same : first ≡ T = ap (λ e. telling P Q e.field e.binary) p.engines in
     let end = shown_by c.carry_out.new.self in
     let new = replied_of c.carry_out.new.exchanges in
     record {

@@ -8,8 +8,8 @@ use Rattle.keying.proofs.draft.Draft.key.Goals as goal
 
 pub made-self-requires : goal.made-self-requires
 made-self-requires g c =
-    let field = c.args.self.now.field in
-    let binary = c.args.self.now.binary in
+    let field = c.args.self.now.engines.field in
+    let binary = c.args.self.now.engines.binary in
     let told = tells (g.P.RingEngine.degree field) (g.P.RingEngine.modulus field) (g.Q.RingEngine.degree binary) (g.Q.RingEngine.modulus binary) in
     let f = c.args.f.now in
     let noise = c.args.g.now in
@@ -30,8 +30,8 @@ made-self-requires g c =
 
 pub returns-clause-keyed : goal.returns-clause-keyed
 returns-clause-keyed g c =
-    let field = c.args.self.now.field in
-    let binary = c.args.self.now.binary in
+    let field = c.args.self.now.engines.field in
+    let binary = c.args.self.now.engines.binary in
     let told = tells (g.P.RingEngine.degree field) (g.P.RingEngine.modulus field) (g.Q.RingEngine.degree binary) (g.Q.RingEngine.modulus binary) in
     let f = c.args.f.now in
     let noise = c.args.g.now in
