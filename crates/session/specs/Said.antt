@@ -31,20 +31,22 @@ said NoDraft = no_draft
 said NoStation = no_station
 said (Unread what) = unread what
 
+-- what is said of a call: what belongs to it where it is obeyed, or the refusal
+abbrev pub replied : {X : Type 0} → Result X Refusal → Said → Said
+replied (Ok x) said = said
+replied (Err e) said = refused e
+
 -- an obeyed call that answers nothing
 abbrev pub obeyed : {X : Type 0} → Result X Refusal → Said
-obeyed (Ok x) = done
-obeyed (Err e) = refused e
+obeyed reply = replied reply done
 
 -- an obeyed call that writes bytes
 abbrev pub given : {X : Type 0} → Result X Refusal → List ℕ → Said
-given (Ok x) content = bytes content
-given (Err e) content = refused e
+given reply content = replied reply (bytes content)
 
 -- an obeyed call that writes a row
 abbrev pub given_row : {X : Type 0} → Result X Refusal → List ℕ → Said
-given_row (Ok x) content = row content
-given_row (Err e) content = refused e
+given_row reply content = replied reply (row content)
 
 -- an obeyed call that writes the bytes of what it found
 abbrev pub shown : {X : Type 0} → Result X Refusal → (X → List ℕ) → Said

@@ -7,8 +7,9 @@ ghost use Rattle.session.specs.Promises.{Promised};
 ghost use Rattle.session.specs.Requests.{answered, post_after};
 ghost use Rattle.session.specs.Said.{done, no_draft, no_station, said};
 
+use crate::answers::answer;
 use crate::state::Session;
-use crate::{answers, calls, tasks};
+use crate::{calls, tasks};
 use custody::station::Station;
 use keying::draft::Draft;
 use reading::rows;
@@ -76,7 +77,7 @@ impl Session {
         };
         let reply = draft.key(f, g);
         self.draft = Some(draft);
-        answers::obeyed(reply)
+        answer(reply, Answer::Done)
     }
 
     // Gives up the draft for a station.

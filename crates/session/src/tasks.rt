@@ -3,7 +3,7 @@ ghost use Rattle.std.specs.Prelude.{◌≡◌, IfOk};
 ghost use Rattle.session.specs.Said.{said};
 ghost use Rattle.session.specs.Tasks.{task_said};
 
-use crate::answers;
+use crate::answers::answer;
 use packing::keys;
 use ring::engine::RingEngine;
 use ring::turning::Turning;
@@ -34,7 +34,7 @@ pub fn carry_out(heap: Global, task: Task) -> Result<Answer, AllocError>
                 message.as_slice(),
                 out.as_mut_slice(),
             );
-            Ok(answers::bytes(reply, out))
+            Ok(answer(reply, Answer::Bytes(out)))
         }
         Task::Unseal {
             mut engine,
@@ -51,7 +51,7 @@ pub fn carry_out(heap: Global, task: Task) -> Result<Answer, AllocError>
                 sealed.as_slice(),
                 out.as_mut_slice(),
             );
-            Ok(answers::bytes(reply, out))
+            Ok(answer(reply, Answer::Bytes(out)))
         }
         Task::Pack {
             degree,
@@ -60,7 +60,7 @@ pub fn carry_out(heap: Global, task: Task) -> Result<Answer, AllocError>
         } => {
             let mut out = vec![in heap; 0u8; length]?;
             let reply = keys::pack_key(degree, row.as_slice(), out.as_mut_slice());
-            Ok(answers::bytes(reply, out))
+            Ok(answer(reply, Answer::Bytes(out)))
         }
         Task::Unpack {
             degree,
@@ -69,7 +69,7 @@ pub fn carry_out(heap: Global, task: Task) -> Result<Answer, AllocError>
         } => {
             let mut out = vec![in heap; 0u16; length]?;
             let reply = keys::unpack_key(degree, bytes.as_slice(), out.as_mut_slice());
-            Ok(answers::row(reply, out))
+            Ok(answer(reply, Answer::Row(out)))
         }
         Task::Multiply {
             mut engine,
@@ -79,7 +79,7 @@ pub fn carry_out(heap: Global, task: Task) -> Result<Answer, AllocError>
         } => {
             let mut out = vec![in heap; 0u16; length]?;
             let reply = engine.multiply(left.as_slice(), right.as_slice(), out.as_mut_slice());
-            Ok(answers::row(reply, out))
+            Ok(answer(reply, Answer::Row(out)))
         }
     }
 }

@@ -21,7 +21,7 @@ returns-in_ok-out-in-Seal c =
     let r = c.seal-reply.ensures in
     packed_arm _ c.seal-reply.result _ ws _
     (with_items_is c.in_ok-out-in-Seal.out ws (c.seal-reply.auto.out ∙ c.as_mut_slice.ensures.len))
-    (sealed n x.width key noise text) c.bytes.ensures r.writes
+    (sealed n x.width key noise text) c.answer.ensures r.writes
     ∙ ap (λ reply. given reply (sealed n x.width key noise text)) r.answers
     ∙ all_alike (λ k e t size. given (seal_answer n m x.width k e t size) (sealed n x.width k e t))
     c.as_slice.ensures.value c.as_slice-in-Seal.ensures.value c.as_slice-in-Seal-2.ensures.value
@@ -39,7 +39,7 @@ returns-in_ok-out-in-Unseal c =
     let r = c.unseal-reply.ensures in
     packed_arm _ c.unseal-reply.result _ ws _
     (with_items_is c.in_ok-out-in-Unseal.out ws (c.unseal-reply.auto.out ∙ c.as_mut_slice-in-Unseal.ensures.len))
-    (unsealed n x.width f bytes) c.bytes-in-Unseal.ensures r.writes
+    (unsealed n x.width f bytes) c.answer-in-Unseal.ensures r.writes
     ∙ ap (λ reply. given reply (unsealed n x.width f bytes)) r.answers
     ∙ ap (λ size. given (unseal_answer n m x.width f bytes size) (unsealed n x.width f bytes))
     (c.as_mut_slice-in-Unseal.ensures.len ∙ c.in_ok-out-in-Unseal.ensures.len)
@@ -55,7 +55,7 @@ returns-in_ok-out-in-Pack c =
     let r = c.pack_key-reply.ensures in
     packed_arm _ c.pack_key-reply.result _ ws _
     (with_items_is c.in_ok-out-in-Pack.out ws (c.pack_key-reply.auto.out ∙ c.as_mut_slice-in-Pack.ensures.len))
-    (packed 12 row) c.bytes-in-Pack.ensures r.writes
+    (packed 12 row) c.answer-in-Pack.ensures r.writes
     ∙ ap (λ reply. given reply (packed 12 row)) r.answers
     ∙ ap₂ (λ entries size. given (pack_key_answer x.degree entries size) (packed 12 entries))
     c.as_slice-in-Pack.ensures.value (c.as_mut_slice-in-Pack.ensures.len ∙ c.in_ok-out-in-Pack.ensures.len)
@@ -69,7 +69,7 @@ returns-in_ok-out-in-Unpack c =
     let r = c.unpack_key-reply.ensures in
     row_arm _ c.unpack_key-reply.result _ ws _
     (with_items_is c.in_ok-out-in-Unpack.out ws (c.unpack_key-reply.auto.out ∙ c.as_mut_slice-in-Unpack.ensures.len))
-    (unpacked 12 x.degree bytes) c.row.ensures r.writes
+    (unpacked 12 x.degree bytes) c.answer-in-Unpack.ensures r.writes
     ∙ ap (λ reply. given_row reply (unpacked 12 x.degree bytes)) r.answers
     ∙ ap₂ (λ b size. given_row (unpack_key_answer x.degree b size) (unpacked 12 x.degree b))
     c.as_slice-in-Unpack.ensures.value (c.as_mut_slice-in-Unpack.ensures.len ∙ c.in_ok-out-in-Unpack.ensures.len)
@@ -86,7 +86,7 @@ returns-in_ok-out-in-Multiply c =
     let r = c.multiply-reply.ensures in
     product_arm _ c.multiply-reply.result _ ws c.as_mut_slice-in-Multiply.result.now
     (with_items_is c.in_ok-out-in-Multiply.out ws (c.multiply-reply.auto.out ∙ c.as_mut_slice-in-Multiply.ensures.len))
-    n m left right c.row-in-Multiply.ensures r.answers r.writes
+    n m left right c.answer-in-Multiply.ensures r.answers r.writes
     ∙ ap (λ size. given_row (engine_answer n m left right size) (product_mod m n left right))
     (c.as_mut_slice-in-Multiply.ensures.len ∙ c.in_ok-out-in-Multiply.ensures.len)
     ∙ ap₂ (λ a b. given_row (engine_answer n m a b x.length) (product_mod m n a b))
