@@ -7,7 +7,7 @@ use custody::call::Call;
 // How many products a call takes.
 fn taken(desk: &mut Desk, call: Call<'_>, buffer: &mut [u8]) -> u64 {
     let before = desk.products();
-    desk.ask(call, buffer);
+    let _ = desk.ask(call, buffer);
     desk.products().wrapping_sub(before)
 }
 

@@ -22,20 +22,14 @@ const NO_NAME: &str = "?";
 fn name_of(word: &[u8]) -> &str
     ensures { Named word.now result.now }
 {
-    match std::str::from_utf8(word) {
-        Ok(name) => name,
-        Err(_) => NO_NAME,
-    }
+    std::str::from_utf8(word).unwrap_or(NO_NAME)
 }
 
 // Whether a word begins a comment.
 fn is_comment(word: &[u8]) -> bool
     ensures { result ≡ hashed word.now }
 {
-    if word.is_empty() {
-        return false;
-    }
-    word[0] == b'#'
+    word.first() == Some(&b'#')
 }
 
 impl Session {

@@ -23,10 +23,7 @@ impl Comparison {
 
     // Counts an answer, and says whether it is as expected; where none is expected it is not.
     pub fn agrees(&mut self, expected: Option<&[u8]>, answer: &[u8]) -> bool {
-        let agrees = match expected {
-            Some(expected) => expected == answer,
-            None => false,
-        };
+        let agrees = expected == Some(answer);
         if agrees {
             self.agreeing = self.agreeing.wrapping_add(1);
         } else {
