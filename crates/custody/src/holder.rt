@@ -5,7 +5,7 @@ ghost use Rattle.custody.specs.Exchanges.{asked_of, calls_of, replied_of};
 ghost use Rattle.custody.specs.Ledger.{all_after};
 ghost use Rattle.custody.specs.Promise.{Asked, Replied, given, replies, Kept, Upheld};
 ghost use Rattle.keying.specs.Drafts.{told_by as drafted};
-ghost use Rattle.custody.specs.Stations.{key_of, told_by, shown_by};
+ghost use Rattle.custody.specs.Stations.{key_of, shown_by, told_by, Leaves};
 ghost use Rattle.custody.specs.declared.call.Call.{Call as Calls};
 
 use crate::exchange::Exchange;
@@ -31,11 +31,9 @@ impl<P: RingEngine, Q: RingEngine> Station<P, Q> {
     // Carries out a list of calls, each with its own buffer: from any past that keeps the promise
     // to that past and the list, with every answer and every buffer as the ledger has them.
     pub fn carry_out(&mut self, exchanges: &mut [Exchange<'_>])
-        ensures key { key_of self.new ≡ key_of self.old }
-        ensures told { told_by P.RingEngine Q.RingEngine self.new ≡ told_by P.RingEngine Q.RingEngine self.old }
         ensures calls { calls_of exchanges.new ≡ calls_of exchanges.old }
         ensures replied { replied_of exchanges.new ≡ given (replies (key_of self.old) (told_by P.RingEngine Q.RingEngine self.old) (shown_by self.old) (asked_of exchanges.old)) }
-        ensures places { shown_by self.new ≡ all_after (key_of self.old) (told_by P.RingEngine Q.RingEngine self.old) (shown_by self.old) (calls_of exchanges.old) }
+        ensures leaves { Leaves P.RingEngine Q.RingEngine self.old self.new (all_after (key_of self.old) (told_by P.RingEngine Q.RingEngine self.old) (shown_by self.old) (calls_of exchanges.old)) }
         ensures kept { (past : List Calls) → Kept (key_of self.old) (told_by P.RingEngine Q.RingEngine self.old) past (shown_by self.old) → Kept (key_of self.old) (told_by P.RingEngine Q.RingEngine self.old) (past ++ calls_of exchanges.old) (shown_by self.new) }
         ensures upheld { (asked : List Asked) (replied : List Replied) → Upheld (key_of self.old) (told_by P.RingEngine Q.RingEngine self.old) asked replied (shown_by self.old) → Upheld (key_of self.old) (told_by P.RingEngine Q.RingEngine self.old) (asked ++ asked_of exchanges.old) (replied ++ replied_of exchanges.new) (shown_by self.new) }
     {

@@ -1,7 +1,7 @@
 // One call as a value, carried out.
 ghost use Rattle.std.specs.Prelude.{◌≡◌, length};
 ghost use Rattle.custody.specs.Calls.{after, answer, buffer_after};
-ghost use Rattle.custody.specs.Stations.{key_of, told_by, shown_by};
+ghost use Rattle.custody.specs.Stations.{key_of, shown_by, told_by, Leaves};
 
 use crate::call::{Answer, Call};
 use crate::station::Station;
@@ -11,10 +11,8 @@ use ring::refusal::Refusal;
 impl<P: RingEngine, Q: RingEngine> Station<P, Q> {
     // Carries out one call, which may write into the buffer.
     pub fn perform(&mut self, call: Call<'_>, buffer: &mut [u8]) -> Result<Answer, Refusal>
-        ensures key { key_of self.new ≡ key_of self.old }
-        ensures told { told_by P.RingEngine Q.RingEngine self.new ≡ told_by P.RingEngine Q.RingEngine self.old }
         ensures answers { result ≡ answer (key_of self.old) (told_by P.RingEngine Q.RingEngine self.old) (shown_by self.old) call.entry (length buffer.old) }
-        ensures places { shown_by self.new ≡ after (key_of self.old) (told_by P.RingEngine Q.RingEngine self.old) (shown_by self.old) call.entry }
+        ensures leaves { Leaves P.RingEngine Q.RingEngine self.old self.new (after (key_of self.old) (told_by P.RingEngine Q.RingEngine self.old) (shown_by self.old) call.entry) }
         ensures writes { buffer.new ≡ buffer_after (key_of self.old) (told_by P.RingEngine Q.RingEngine self.old) (shown_by self.old) call.entry buffer.old }
     {
         match call {

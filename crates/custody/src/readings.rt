@@ -5,7 +5,7 @@ ghost use Rattle.custody.specs.Calls.{holding, likeness_reply, same_bytes};
 ghost use Rattle.custody.specs.Checks.{both_held, hand_out as hand_out_reply, held, keyed, open_reply, opened, publish as publish_reply};
 ghost use Rattle.places.specs.Replies.{plain, written};
 ghost use Rattle.keying.specs.Keys.{h_of};
-ghost use Rattle.custody.specs.Stations.{key_of, told_by, shown_by};
+ghost use Rattle.custody.specs.Stations.{key_of, shown_by, told_by, Leaves};
 
 use crate::holding::Holding;
 use crate::station::Station;
@@ -29,9 +29,7 @@ impl<P: RingEngine, Q: RingEngine> Station<P, Q> {
 
     // Writes the message of the nearest words of a place: 5, 6, 8, 2.
     pub fn open(&mut self, place: usize, out: &mut [u8]) -> Result<(), Refusal>
-        ensures key { key_of self.new ≡ key_of self.old }
-        ensures told { told_by P.RingEngine Q.RingEngine self.new ≡ told_by P.RingEngine Q.RingEngine self.old }
-        ensures places { shown_by self.new ≡ shown_by self.old }
+        ensures leaves { Leaves P.RingEngine Q.RingEngine self.old self.new (shown_by self.old) }
         ensures answers { result ≡ plain (open_reply (key_of self.old) (told_by P.RingEngine Q.RingEngine self.old) (shown_by self.old) place (length out.old)) }
         ensures writes { out.new ≡ written (open_reply (key_of self.old) (told_by P.RingEngine Q.RingEngine self.old) (shown_by self.old) place (length out.old)) (opened (key_of self.old)) out.old }
     {
@@ -84,9 +82,7 @@ impl<P: RingEngine, Q: RingEngine> Station<P, Q> {
 
     // Whether two filled places open to the same bits: 5, 6, 8.
     pub fn alike(&mut self, first: usize, second: usize) -> Result<bool, Refusal>
-        ensures key { key_of self.new ≡ key_of self.old }
-        ensures told { told_by P.RingEngine Q.RingEngine self.new ≡ told_by P.RingEngine Q.RingEngine self.old }
-        ensures places { shown_by self.new ≡ shown_by self.old }
+        ensures leaves { Leaves P.RingEngine Q.RingEngine self.old self.new (shown_by self.old) }
         ensures answers { result ≡ likeness_reply (key_of self.old) (both_held (key_of self.old) (told_by P.RingEngine Q.RingEngine self.old) (shown_by self.old) first second) }
     {
         self.keyed()?;
@@ -97,8 +93,20 @@ impl<P: RingEngine, Q: RingEngine> Station<P, Q> {
         let b = self.register.filled(second)?;
         let key = &self.register.key;
         let n = key.degree;
-        let left = secret::message(&mut self.engines.binary, n, &a.coefficients, &key.f, a.width)?;
-        let right = secret::message(&mut self.engines.binary, n, &b.coefficients, &key.f, b.width)?;
+        let left = secret::message(
+            &mut self.engines.binary,
+            n,
+            &a.coefficients,
+            &key.f,
+            a.width,
+        )?;
+        let right = secret::message(
+            &mut self.engines.binary,
+            n,
+            &b.coefficients,
+            &key.f,
+            b.width,
+        )?;
         Ok(same(&left[0..n / 16], &right[0..n / 16]))
     }
 }

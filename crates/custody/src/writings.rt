@@ -3,7 +3,7 @@ ghost use Rattle.std.specs.Prelude.{◌≡◌};
 ghost use Rattle.places.specs.Changes.{emptied, put};
 ghost use Rattle.custody.specs.Checks.{deposit as deposit_reply, join as join_reply, trim as trim_reply, held};
 ghost use Rattle.places.specs.Replies.{plain};
-ghost use Rattle.custody.specs.Stations.{key_of, told_by, shown_by};
+ghost use Rattle.custody.specs.Stations.{key_of, shown_by, told_by, Leaves};
 
 use crate::station::Station;
 use places::lines;
@@ -19,10 +19,8 @@ impl<P: RingEngine, Q: RingEngine> Station<P, Q> {
         noise: &[i16],
         message: &[u8],
     ) -> Result<(), Refusal>
-        ensures key { key_of self.new ≡ key_of self.old }
-        ensures told { told_by P.RingEngine Q.RingEngine self.new ≡ told_by P.RingEngine Q.RingEngine self.old }
         ensures answers { result ≡ plain (deposit_reply (key_of self.old) (told_by P.RingEngine Q.RingEngine self.old) (shown_by self.old) place width noise.now message.now) }
-        ensures places { shown_by self.new ≡ put (shown_by self.old) place (deposit_reply (key_of self.old) (told_by P.RingEngine Q.RingEngine self.old) (shown_by self.old) place width noise.now message.now) }
+        ensures leaves { Leaves P.RingEngine Q.RingEngine self.old self.new (put (shown_by self.old) place (deposit_reply (key_of self.old) (told_by P.RingEngine Q.RingEngine self.old) (shown_by self.old) place width noise.now message.now)) }
     {
         self.keyed()?;
         let width = self.register.vacant(place, width, noise, message)?;
@@ -39,10 +37,8 @@ impl<P: RingEngine, Q: RingEngine> Station<P, Q> {
 
     // Adds the second place into the first and empties the second: 5, 6, 9, 8, 10, 12.
     pub fn join(&mut self, first: usize, second: usize) -> Result<(), Refusal>
-        ensures key { key_of self.new ≡ key_of self.old }
-        ensures told { told_by P.RingEngine Q.RingEngine self.new ≡ told_by P.RingEngine Q.RingEngine self.old }
         ensures answers { result ≡ plain (join_reply (key_of self.old) (told_by P.RingEngine Q.RingEngine self.old) (shown_by self.old) first second) }
-        ensures places { shown_by self.new ≡ emptied (put (shown_by self.old) first (join_reply (key_of self.old) (told_by P.RingEngine Q.RingEngine self.old) (shown_by self.old) first second)) second (join_reply (key_of self.old) (told_by P.RingEngine Q.RingEngine self.old) (shown_by self.old) first second) }
+        ensures leaves { Leaves P.RingEngine Q.RingEngine self.old self.new (emptied (put (shown_by self.old) first (join_reply (key_of self.old) (told_by P.RingEngine Q.RingEngine self.old) (shown_by self.old) first second)) second (join_reply (key_of self.old) (told_by P.RingEngine Q.RingEngine self.old) (shown_by self.old) first second)) }
     {
         self.keyed()?;
         self.register.join(first, second)
@@ -50,25 +46,26 @@ impl<P: RingEngine, Q: RingEngine> Station<P, Q> {
 
     // Takes a place to the next smaller width: 5, 6, 8, 11, 12.
     pub fn trim(&mut self, place: usize) -> Result<(), Refusal>
-        ensures key { key_of self.new ≡ key_of self.old }
-        ensures told { told_by P.RingEngine Q.RingEngine self.new ≡ told_by P.RingEngine Q.RingEngine self.old }
         ensures answers { result ≡ plain (trim_reply (key_of self.old) (told_by P.RingEngine Q.RingEngine self.old) (shown_by self.old) place) }
-        ensures places { shown_by self.new ≡ put (shown_by self.old) place (trim_reply (key_of self.old) (told_by P.RingEngine Q.RingEngine self.old) (shown_by self.old) place) }
+        ensures leaves { Leaves P.RingEngine Q.RingEngine self.old self.new (put (shown_by self.old) place (trim_reply (key_of self.old) (told_by P.RingEngine Q.RingEngine self.old) (shown_by self.old) place)) }
     {
         self.keyed()?;
         let filled = self.register.filled(place)?;
         let width = filled.width.narrower().ok_or(Refusal::Width)?;
-        let shorter = lines::shortened(&mut self.engines.binary, &self.register.key, filled, width)?;
+        let shorter = lines::shortened(
+            &mut self.engines.binary,
+            &self.register.key,
+            filled,
+            width,
+        )?;
         self.register.fill(place, shorter);
         Ok(())
     }
 
     // Empties a place: 5, 6, 8.
     pub fn clear(&mut self, place: usize) -> Result<(), Refusal>
-        ensures key { key_of self.new ≡ key_of self.old }
-        ensures told { told_by P.RingEngine Q.RingEngine self.new ≡ told_by P.RingEngine Q.RingEngine self.old }
         ensures answers { result ≡ plain (held (key_of self.old) (told_by P.RingEngine Q.RingEngine self.old) (shown_by self.old) place) }
-        ensures places { shown_by self.new ≡ emptied (shown_by self.old) place (held (key_of self.old) (told_by P.RingEngine Q.RingEngine self.old) (shown_by self.old) place) }
+        ensures leaves { Leaves P.RingEngine Q.RingEngine self.old self.new (emptied (shown_by self.old) place (held (key_of self.old) (told_by P.RingEngine Q.RingEngine self.old) (shown_by self.old) place)) }
     {
         self.keyed()?;
         self.register.filled(place)?;

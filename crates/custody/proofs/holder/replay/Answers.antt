@@ -22,8 +22,8 @@ returns g c =
     let end = shown_by c.carry_out.new.self in
     let new = replied_of c.carry_out.new.exchanges in
     record {
-      key = q.key ∙ p.key;
-      told = q.told ∙ same;
+      key = q.leaves.0 ∙ p.key;
+      told = q.leaves.1 ∙ same;
       calls = q.calls;
       replied = q.replied ∙ ap₂ (λ k t. given (replies k t (shown_by s) (asked_of xs))) p.key same ∙ ap (λ b. given (replies d.key T b (asked_of xs))) p.places;
       kept = subst (λ k. Kept k T (calls_of xs) end) p.key

@@ -18,5 +18,5 @@ returns c =
     record {
       replied = ap₂ pair (sym c.in-Some.is) (ap vec_items c.replace-buffer.ensures.value)
           ∙ sym (first_of xs c.index-list-0.result c.index-list-0-2.result (omega (arith, c.carry_out.auto.exchanges, c.requires))) ∙ ap (take 1) r.replied;
-      post = moved c.args.station.now c.carry_out.new.self _ r.key r.told r.places;
+      post = moved c.args.station.now c.carry_out.new.self _ r.leaves.0 r.leaves.1 r.leaves.2;
     }

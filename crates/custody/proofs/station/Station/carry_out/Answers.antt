@@ -30,14 +30,14 @@ loop-x-preserved g c =
     let B = book c.loop-x.self.register in
     let ws = c.perform-answer.new.buffer in
     let next : Exchange = record { call = x.call; buffer = with_items x.buffer ws; answer = Some c.perform-answer.result } in (
-      p.key ∙ inv.0,
-      p.told ∙ inv.1,
+      p.leaves.0 ∙ inv.0,
+      p.leaves.1 ∙ inv.1,
       going_on K T (book was.register) c.args.exchanges.now i B xs inv.2 c.loop-x-test.true c.loop-x.auto.exchanges
           c.x-item.result x next _ refl refl
           (ap Some (p.answers ∙ ap₂ (λ k t. answer k t B x.call (length c.as_mut_slice.result.now)) inv.0 inv.1 ∙ ap (λ b. answer K T B x.call (length b)) lent))
           (with_items_is x.buffer ws (omega (arith, c.perform-answer.auto.buffer, c.as_mut_slice.ensures.len))
           ∙ p.writes ∙ ap₂ (λ k t. buffer_after k t B x.call c.as_mut_slice.result.now) inv.0 inv.1 ∙ ap (buffer_after K T B x.call) lent)
-          (p.places ∙ ap₂ (λ k t. after k t B x.call) inv.0 inv.1),
+          (p.leaves.2 ∙ ap₂ (λ k t. after k t B x.call) inv.0 inv.1),
     )
 
 pub returns : goal.returns
@@ -52,10 +52,8 @@ returns g c =
     let all : take i old ≡ old = take_all i old c.loop-x-test.false in
     let every : take i c.loop-x.exchanges ≡ c.loop-x.exchanges = take_all i _ (omega (arith, c.loop-x.auto.exchanges, c.loop-x-test.false)) in
     record {
-      key = inv.0;
-      told = inv.1;
       calls = inv.2.calls;
-      places = inv.2.places ∙ ap (λ w. all_after K T B (calls_of w)) all;
+      leaves = (inv.0, inv.1, inv.2.places ∙ ap (λ w. all_after K T B (calls_of w)) all);
       replied = ap replied_of (sym every) ∙ inv.2.replied ∙ ap (λ w. given (replies K T B (asked_of w))) all;
       kept = λ past kept. run_keeps K T past (calls_of old) B _ kept (inv.2.places ∙ ap (λ w. all_after K T B (calls_of w)) all);
       upheld = λ asked replied past. run_upholds K T asked (asked_of old) replied B past _ (replied_of c.loop-x.exchanges)
