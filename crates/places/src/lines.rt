@@ -4,6 +4,7 @@ ghost use Rattle.ring.specs.Engines.{all_below};
 ghost use Rattle.places.specs.Lines.{candidate, quiet as quiet_of, deposited as deposited_of, together as together_of, shortened as shortened_of};
 ghost use Rattle.keying.specs.Told.{ready, telling};
 ghost use Rattle.places.specs.Views.{line_of, lined};
+ghost use Rattle.products.specs.Asking.{Same};
 
 use crate::filled::Filled;
 use code::root::root_up;
@@ -47,7 +48,8 @@ pub fn deposited<P: RingEngine, Q: RingEngine>(
     let sigma = noise::sigma(&mut engines.field, n, &key.h, noise)?;
     let mut coefficients = [0u16; 1024];
     wrap::embed(&sigma, message, width, &mut coefficients);
-    let distance = secret::distance(&mut engines.binary, n, &coefficients, &key.f, message, width)?;
+    let binary = &mut engines.binary;
+    let distance = secret::distance(binary, n, &coefficients, &key.f, message, width)?;
     quiet(width, coefficients, root_up(distance) as u64)
 }
 
@@ -69,10 +71,9 @@ pub fn shortened<Q: RingEngine>(
     filled: Filled,
     width: Width,
 ) -> Result<Filled, Refusal>
-    requires engine { (Q.RingEngine.degree binary.old ≡ key.now.degree) × (Q.RingEngine.modulus binary.old ≡ 2048) × (0 < key.now.degree) }
+    requires engine { (Q.RingEngine.degree binary.old ≡ key.now.degree) × (Q.RingEngine.modulus binary.old ≡ 2048) }
     requires width { width.bits + 1 ≡ filled.width.bits }
-    ensures sized { Q.RingEngine.degree binary.new ≡ Q.RingEngine.degree binary.old }
-    ensures modular { Q.RingEngine.modulus binary.new ≡ Q.RingEngine.modulus binary.old }
+    ensures same { Same Q.RingEngine binary.old binary.new }
     ensures answers { lined key.now.degree result ≡ quiet_of (shortened_of key.now (line_of key.now.degree filled)) }
 {
     let n = key.degree;

@@ -1,6 +1,7 @@
 // The one product of custody: the first places of two arrays, asked of an engine.
 ghost use Rattle.std.specs.Prelude.{◌≡◌, ◌≤◌, true, take, drop, Ok};
 ghost use Rattle.ring.specs.Engines.{all_below, product_mod};
+ghost use Rattle.products.specs.Asking.{Same};
 
 use ring::engine::RingEngine;
 use ring::refusal::Refusal;
@@ -15,8 +16,7 @@ pub fn multiply<E: RingEngine>(
 ) -> Result<(), Refusal>
     requires engine { (E.degree engine.old ≡ n) × (n ≤ 1024) }
     requires residues { (all_below (E.modulus engine.old) (take n a.now) ≡ true) × (all_below (E.modulus engine.old) (take n b.now) ≡ true) }
-    ensures sized { E.degree engine.new ≡ E.degree engine.old }
-    ensures modular { E.modulus engine.new ≡ E.modulus engine.old }
+    ensures same { Same E.RingEngine engine.old engine.new }
     ensures obeyed { result ≡ Ok tt }
     ensures product { take n out.new ≡ product_mod (E.modulus engine.old) n (take n a.now) (take n b.now) }
     ensures rest { drop n out.new ≡ drop n out.old }

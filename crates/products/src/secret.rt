@@ -4,6 +4,7 @@ ghost use Rattle.code.specs.Rows.{decoded, farthest};
 ghost use Rattle.ring.specs.Engines.{all_below};
 ghost use Rattle.wrapping.specs.Secrets.{reduced_row};
 ghost use Rattle.wrapping.specs.Wraps.{measured as measured_of};
+ghost use Rattle.products.specs.Asking.{Fits, Same};
 
 use crate::multiply::multiply;
 use code::octets;
@@ -19,10 +20,9 @@ fn measured<Q: RingEngine>(
     c: &[u16; 1024],
     f: &[i16; 1024],
 ) -> Result<[u16; 1024], Refusal>
-    requires engine { (Q.degree engine.old ≡ n) × (Q.modulus engine.old ≡ 2048) × (n ≤ 1024) × (0 < n) }
+    requires engine { Fits Q.RingEngine engine.old n 2048 }
     requires row { all_below 2048 (take n c.now) ≡ true }
-    ensures sized { Q.degree engine.new ≡ Q.degree engine.old }
-    ensures modular { Q.modulus engine.new ≡ Q.modulus engine.old }
+    ensures same { Same Q.RingEngine engine.old engine.new }
     ensures obeyed { is_ok result ≡ true }
     ensures value { IfOk result (λ row. take n row ≡ reduced_row 2048 (measured_of n (take n f.now) (take n c.now))) }
 {
@@ -42,10 +42,9 @@ pub fn distance<Q: RingEngine>(
     message: &[u8],
     width: Width,
 ) -> Result<u32, Refusal>
-    requires engine { (Q.degree engine.old ≡ n) × (Q.modulus engine.old ≡ 2048) × (n ≤ 1024) × (0 < n) }
+    requires engine { Fits Q.RingEngine engine.old n 2048 }
     requires row { all_below 2048 (take n c.now) ≡ true }
-    ensures sized { Q.degree engine.new ≡ Q.degree engine.old }
-    ensures modular { Q.modulus engine.new ≡ Q.modulus engine.old }
+    ensures same { Same Q.RingEngine engine.old engine.new }
     ensures obeyed { is_ok result ≡ true }
     ensures value { IfOk result (λ d. d ≡ farthest width.bits (measured_of n (take n f.now) (take n c.now)) message.now) }
 {
@@ -62,10 +61,9 @@ pub fn decode<Q: RingEngine>(
     width: Width,
     out: &mut [u8],
 ) -> Result<(), Refusal>
-    requires engine { (Q.degree engine.old ≡ n) × (Q.modulus engine.old ≡ 2048) × (n ≤ 1024) × (0 < n) }
+    requires engine { Fits Q.RingEngine engine.old n 2048 }
     requires row { all_below 2048 (take n c.now) ≡ true }
-    ensures sized { Q.degree engine.new ≡ Q.degree engine.old }
-    ensures modular { Q.modulus engine.new ≡ Q.modulus engine.old }
+    ensures same { Same Q.RingEngine engine.old engine.new }
     ensures obeyed { result ≡ Ok tt }
     ensures writes { out.new ≡ decoded width.bits (measured_of n (take n f.now) (take n c.now)) (length out.old) }
 {
@@ -82,10 +80,9 @@ pub fn message<Q: RingEngine>(
     f: &[i16; 1024],
     width: Width,
 ) -> Result<[u8; 64], Refusal>
-    requires engine { (Q.degree engine.old ≡ n) × (Q.modulus engine.old ≡ 2048) × (n ≤ 1024) × (0 < n) }
+    requires engine { Fits Q.RingEngine engine.old n 2048 }
     requires row { all_below 2048 (take n c.now) ≡ true }
-    ensures sized { Q.degree engine.new ≡ Q.degree engine.old }
-    ensures modular { Q.modulus engine.new ≡ Q.modulus engine.old }
+    ensures same { Same Q.RingEngine engine.old engine.new }
     ensures obeyed { is_ok result ≡ true }
     ensures value { IfOk result (λ bytes. take (n / 16) bytes ≡ decoded width.bits (measured_of n (take n f.now) (take n c.now)) (n / 16)) }
 {

@@ -2,6 +2,7 @@
 ghost use Rattle.std.specs.Prelude.{◌≡◌, ◌-◌, ◌≤◌, true, length, take, drop, replicate, is_ok, IfOk};
 ghost use Rattle.ring.specs.Engines.{all_below, product_mod};
 ghost use Rattle.wrapping.specs.Secrets.{reduced_row};
+ghost use Rattle.products.specs.Asking.{Fits, Same};
 
 use crate::multiply::multiply;
 use ring::engine::RingEngine;
@@ -15,10 +16,9 @@ pub fn times<P: RingEngine>(
     row: &[u16; 1024],
     small: &[i16],
 ) -> Result<[u16; 1024], Refusal>
-    requires engine { (P.degree engine.old ≡ n) × (P.modulus engine.old ≡ 3457) × (n ≤ 1024) }
+    requires engine { Fits P.RingEngine engine.old n 3457 }
     requires rows { (all_below 3457 (take n row.now) ≡ true) × (length small.now ≡ n) }
-    ensures sized { P.degree engine.new ≡ P.degree engine.old }
-    ensures modular { P.modulus engine.new ≡ P.modulus engine.old }
+    ensures same { Same P.RingEngine engine.old engine.new }
     ensures obeyed { is_ok result ≡ true }
     ensures value { IfOk result (λ out. take n out ≡ product_mod 3457 n (take n row.now) (reduced_row 3457 small.now)) }
     ensures rest { IfOk result (λ out. drop n out ≡ replicate (1024 - n) 0) }

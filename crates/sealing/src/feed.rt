@@ -6,6 +6,7 @@ ghost use Rattle.ring.specs.Engines.{all_below};
 ghost use Rattle.wrapping.specs.Wraps.{wrap as wrap_of};
 ghost use Rattle.sealing.specs.Sealing.{seal_answer, sealed, suited as suited_of, unseal_answer, unsealed as unsealed_of, ComesBack};
 ghost use Rattle.products.specs.Widths.{bits_of};
+ghost use Rattle.products.specs.Asking.{Fits, Same};
 
 use code::width::Width;
 use packing::{keys, rows};
@@ -30,8 +31,7 @@ pub fn seal<P: RingEngine>(
     message: &[u8],
     out: &mut [u8],
 ) -> Result<(), Refusal>
-    ensures sized { P.degree engine.new ≡ P.degree engine.old }
-    ensures modular { P.modulus engine.new ≡ P.modulus engine.old }
+    ensures same { Same P.RingEngine engine.old engine.new }
     ensures answers { result ≡ seal_answer (P.degree engine.old) (P.modulus engine.old) width key.now noise.now message.now (length out.old) }
     ensures writes { out.new ≡ written result (sealed (P.degree engine.old) width key.now noise.now message.now) out.old }
 {
@@ -60,8 +60,7 @@ pub fn unseal<Q: RingEngine>(
     bytes: &[u8],
     out: &mut [u8],
 ) -> Result<(), Refusal>
-    ensures sized { Q.degree engine.new ≡ Q.degree engine.old }
-    ensures modular { Q.modulus engine.new ≡ Q.modulus engine.old }
+    ensures same { Same Q.RingEngine engine.old engine.new }
     ensures answers { result ≡ unseal_answer (Q.degree engine.old) (Q.modulus engine.old) width f.now bytes.now (length out.old) }
     ensures writes { out.new ≡ written result (unsealed_of (Q.degree engine.old) width f.now bytes.now) out.old }
 {
@@ -120,10 +119,9 @@ fn wrap_into<P: RingEngine>(
     message: &[u8],
     out: &mut [u8],
 ) -> Result<(), Refusal>
-    requires engine { (P.degree engine.old ≡ n) × (P.modulus engine.old ≡ 3457) × (n ≤ 1024) }
+    requires engine { Fits P.RingEngine engine.old n 3457 }
     requires rows { (all_below 3457 (take n h.now) ≡ true) × (length noise.now ≡ n) × (length out.old * 8 ≡ n * width.bits) }
-    ensures sized { P.degree engine.new ≡ P.degree engine.old }
-    ensures modular { P.modulus engine.new ≡ P.modulus engine.old }
+    ensures same { Same P.RingEngine engine.old engine.new }
     ensures obeyed { result ≡ Ok tt }
     ensures writes { out.new ≡ packed width.bits (wrap_of n width.bits (take n h.now) noise.now message.now) }
 {

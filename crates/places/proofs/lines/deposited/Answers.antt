@@ -27,7 +27,7 @@ distance-requires g c =
     let ls : length c.in_ok-sigma.sigma ≡ 1024 = search rules in
     let high : w ≤ 11 = omega arith in
     record {
-      engine = (r.binary_degree ∙ r.field_degree, r.binary_modulus, key.size.1, r.some);
+      engine = (r.binary_degree ∙ r.field_degree, r.binary_modulus, key.size.1);
       row = take_all-below 2048 key.degree c.embed.new.out
           (below_higher (2 ^ w) 2048 c.embed.new.out (pow_mono high)
           (wrapped-below w c.in_ok-sigma.sigma c.args.message.now c.embed.new.out ls c.embed.ensures));
@@ -51,7 +51,7 @@ returns g c =
     let row_is : take n c.embed.new.out ≡ embedded_row n w (sigma n (take n key.h) c.args.noise.now) m =
     wrapped_front n w c.in_ok-sigma.sigma m c.embed.new.out ls key.size.1 c.embed.ensures ∙ ap (λ s. embedded_row n w s m) one.value in
     record {
-      told = tells-same one.sized one.modular two.sized two.modular;
+      told = tells-same one.same.0 one.same.1 two.same.0 two.same.1;
       answers = c.quiet.ensures n
           ∙ ap₂ (λ row l. quiet (candidate w row l)) row_is
           (c.root_up.ensures ∙ ap root_up (two.value ∙ ap (λ row. farthest w (measured n (take n key.f) row) m) row_is));

@@ -18,7 +18,7 @@ distance-requires g c =
     let row = c.args.filled.coefficients in
     let l : length row ≡ 1024 = search rules in
     record {
-      engine = (c.requires.engine.0, c.requires.engine.1, key.size.1, c.requires.engine.2);
+      engine = (c.requires.engine.0, c.requires.engine.1, key.size.1);
       row = take_all-below 2048 key.degree c.halvings.new.out
           (below_higher 2 2048 c.halvings.new.out (lit≤ tt)
           (ap (all_below 2) (halvings_is row c.halvings.new.out l c.halvings.ensures) ∙ halvings_below row));
@@ -46,8 +46,7 @@ returns g c =
     let loss_is : c.root_up-loss.result ≡ root_up (farthest w (measured n (take n key.f) (map halving (take n row))) []) =
     c.root_up-loss.ensures ∙ ap root_up (two.value ∙ ap (λ r. farthest w (measured n (take n key.f) r) []) halvings-are) in
     record {
-      sized = two.sized;
-      modular = two.modular;
+      same = two.same;
       answers = c.quiet.ensures n
           ∙ ap₂ (λ k r. quiet (candidate k r ((c.args.filled.allowance + c.root_up-loss.result + 1) / 2))) e (ap (take n) c.halve.ensures ∙ take-map (halved w) n row)
           ∙ ap (λ x. quiet (candidate (w - 1) (map (halved w) (take n row)) ((c.args.filled.allowance + x + 1) / 2))) loss_is;

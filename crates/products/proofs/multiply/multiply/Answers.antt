@@ -12,8 +12,7 @@ returns g c =
     let b = c.args.b.now in
     let out = c.args.out.now in
     record {
-      sized = c.multiply.ensures.sized;
-      modular = c.multiply.ensures.modular;
+      same = (c.multiply.ensures.sized, c.multiply.ensures.modular);
       obeyed =
           front_obeys d m n a b out c.requires.engine.0 c.requires.engine.1 c.told-a c.told-b c.told-out c.requires.residues.0 c.requires.residues.1
           c.multiply.result c.multiply.ensures.answers;

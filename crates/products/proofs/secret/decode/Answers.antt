@@ -8,8 +8,7 @@ returns g c =
     let n = c.args.n in
     let v = measured n (take n c.args.f.now) (take n c.args.c.now) in
     record {
-      sized = c.measured.ensures.sized;
-      modular = c.measured.ensures.modular;
+      same = c.measured.ensures.same;
       obeyed = refl;
       writes = decoded_front n c.args.width c.in_ok-row.row v c.decode.new.out (length c.args.out.now) c.in_ok-row.ensures.value c.decode.ensures;
     }

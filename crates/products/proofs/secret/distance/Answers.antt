@@ -8,8 +8,7 @@ returns g c =
     let n = c.args.n in
     let v = measured n (take n c.args.f.now) (take n c.args.c.now) in
     record {
-      sized = c.measured.ensures.sized;
-      modular = c.measured.ensures.modular;
+      same = c.measured.ensures.same;
       obeyed = refl;
       value = farthest_front n c.args.width c.in_ok-row.row v c.farthest.result c.args.message.now c.in_ok-row.ensures.value c.farthest.ensures;
     }

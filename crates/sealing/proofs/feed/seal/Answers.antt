@@ -22,8 +22,7 @@ returns-in_err-read_key g c =
     let lo : length out ≡ n * bits / 8 = c.if-out-n.false ∙ ap (λ (v : ℕ). n * v / 8) c.bits.ensures in
     let exit = err_from_is_err_and a c.from_residual-in_err-read_key.ensures.1 in
     record {
-      sized = refl;
-      modular = refl;
+      same = (refl, refl);
       answers =
           seal_breaks d k n m w bits (length out) key r message c.degree-n.ensures c.modulus.ensures s (g.P.RingEngine.sizes engine)
           c.if-key-n.false c.if-noise-n.false c.if-message-n.false lo a exit.0 _ exit.1 exit.2 c.in_err-read_key.ensures.answers;
@@ -47,8 +46,7 @@ returns g c =
     let s = suits_so 9 3457 n m w bits c.in_ok-width.ensures in
     let lo : length out ≡ n * bits / 8 = c.if-out-n.false ∙ ap (λ (v : ℕ). n * v / 8) c.bits.ensures in
     record {
-      sized = c.wrap_into.ensures.sized;
-      modular = c.wrap_into.ensures.modular;
+      same = c.wrap_into.ensures.same;
       answers =
           seal_obeys d k n m w bits (length out) key r message c.degree-n.ensures c.modulus.ensures s (g.P.RingEngine.sizes engine)
           c.if-key-n.false c.if-noise-n.false c.if-message-n.false lo a c.wrap_into.ensures.obeyed c.in_ok-read_key.ensures.answers

@@ -19,7 +19,7 @@ decode-requires g c =
     let bits = c.in_ok-width.width.bits in
     let s = suits_so 8 2048 n c.modulus.result c.args.width bits c.in_ok-width.ensures in
     record {
-      engine = (sym c.degree-n.ensures, sym c.modulus.ensures ∙ s.modular, s.small, omega (arith, g.Q.RingEngine.sizes c.args.engine.now));
+      engine = (sym c.degree-n.ensures, sym c.modulus.ensures ∙ s.modular, s.small);
       row = unpacked-low bits n c.args.bytes.now (take n c.read_row.new.c) c.in_ok-width.width.ok.1 c.read_row.ensures.writes;
     }
 
@@ -40,8 +40,7 @@ returns g c =
     let lb : length bytes ≡ n * bits / 8 = c.if-bytes-n.false ∙ ap (λ (v : ℕ). n * v / 8) c.bits.ensures in
     let front : take n c.padded.result ≡ f = ap (take n) c.padded.ensures ∙ take_at f _ n c.if-f-n.false in
     record {
-      sized = c.decode.ensures.sized;
-      modular = c.decode.ensures.modular;
+      same = c.decode.ensures.same;
       answers =
           unseal_obeys d k n m w bits (length out) f bytes c.degree-n.ensures c.modulus.ensures s c.if-f-n.false lb c.if-out-n.false
           a c.decode.ensures.obeyed (sym c.if-not-is_small.ensures);

@@ -14,8 +14,7 @@ returns g c =
     let long : length c.in_ok-sigma.sigma ≡ 1024 = omega arith in
     let is = wrapped-cut n w c.in_ok-sigma.sigma c.embed.new.out row message c.requires.engine.2 long c.in_ok-sigma.ensures.value c.embed.ensures in
     record {
-      sized = c.sigma.ensures.sized;
-      modular = c.sigma.ensures.modular;
+      same = c.sigma.ensures.same;
       obeyed =
           wrapped_packs n w c.bits.result cut out row message c.pack_row.result c.bits.ensures c.args.width.ok.0 c.args.width.ok.1 is c.requires.rows.2
           c.pack_row.ensures.answers;

@@ -8,7 +8,7 @@ message-requires g c =
     let key = c.args.self.now.register.key in
     let r = keyed_is key _ _ (sym c.keyed.ensures ∙ c.in_ok-keyed.was) in
     record {
-      engine = (r.binary_degree ∙ r.field_degree, r.binary_modulus, key.size.1, r.some);
+      engine = (r.binary_degree ∙ r.field_degree, r.binary_modulus, key.size.1);
       row = filled-below key.degree c.in_ok-a.a;
     }
 
@@ -18,6 +18,6 @@ message-requires-2 g c =
     let r = keyed_is key _ _ (sym c.keyed.ensures ∙ c.in_ok-keyed.was) in
     let one = c.in_ok-left.ensures in
     record {
-      engine = (one.sized ∙ r.binary_degree ∙ r.field_degree, one.modular ∙ r.binary_modulus, key.size.1, r.some);
+      engine = (one.same.0 ∙ r.binary_degree ∙ r.field_degree, one.same.1 ∙ r.binary_modulus, key.size.1);
       row = filled-below key.degree c.in_ok-b.b;
     }
