@@ -1,5 +1,5 @@
 -- The book that a register shows.
-use Rattle.std.specs.Prelude.{ℕ, List, map, take, Ok, Err, Option, Result}
+use Rattle.std.specs.Prelude.{◌≡◌, ℕ, List, map, take, Ok, Err, Option, Result}
 use Rattle.std.specs.Option.{option_map}
 use Rattle.ring.specs.declared.refusal.Refusal.{Refusal}
 use Rattle.places.specs.declared.filled.Filled.{Filled}
@@ -26,3 +26,7 @@ lined n (Err e) = Err e
 abbrev pub optional : ℕ → Result (Option Filled) Refusal → Result (Option Line) Refusal
 optional n (Ok a) = Ok (option_map (line_of n) a)
 optional n (Err e) = Err e
+
+-- what a change leaves of a register: its key, and a book
+abbrev pub Leaves : Register → Register → Book → Type 0
+Leaves before after places = (after.key ≡ before.key) × (book after ≡ places)

@@ -4,7 +4,7 @@ ghost use Rattle.places.specs.Changes.{emptied, put};
 ghost use Rattle.places.specs.Books.{at, empty_book};
 ghost use Rattle.places.specs.Checks.{deposit_width, depositable as depositable_of, join_places, found, placed, vacant as vacant_of};
 ghost use Rattle.places.specs.Replies.{plain};
-ghost use Rattle.places.specs.Views.{book, line_of, lined, optional};
+ghost use Rattle.places.specs.Views.{book, line_of, lined, optional, Leaves};
 ghost use Rattle.products.specs.Widths.{bits_of};
 
 use crate::filled::Filled;
@@ -63,8 +63,7 @@ impl Register {
     // Fills a place.
     pub fn fill(&mut self, place: usize, filled: Filled)
         requires { place < 8 }
-        ensures key { self.new.key ≡ self.old.key }
-        ensures places { book self.new ≡ slice_set (book self.old) place (Some (line_of self.old.key.degree filled)) }
+        ensures { Leaves self.old self.new (slice_set (book self.old) place (Some (line_of self.old.key.degree filled))) }
     {
         self.places[place] = Some(filled);
     }
@@ -72,17 +71,15 @@ impl Register {
     // Empties a place.
     pub fn empty(&mut self, place: usize)
         requires { place < 8 }
-        ensures key { self.new.key ≡ self.old.key }
-        ensures places { book self.new ≡ slice_set (book self.old) place None }
+        ensures { Leaves self.old self.new (slice_set (book self.old) place None) }
     {
         self.places[place] = None;
     }
 
     // Adds the second place into the first and empties the second: 6, 9, 8, 10, 12.
     pub fn join(&mut self, first: usize, second: usize) -> Result<(), Refusal>
-        ensures key { self.new.key ≡ self.old.key }
         ensures answers { result ≡ plain (join_places (book self.old) first second) }
-        ensures places { book self.new ≡ emptied (put (book self.old) first (join_places (book self.old) first second)) second (join_places (book self.old) first second) }
+        ensures leaves { Leaves self.old self.new (emptied (put (book self.old) first (join_places (book self.old) first second)) second (join_places (book self.old) first second)) }
     {
         let sum = self.joined(first, second)?;
         self.fill(first, sum);

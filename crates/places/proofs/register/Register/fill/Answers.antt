@@ -3,4 +3,4 @@ use Rattle.places.proofs.BookLaws.{book-set}
 use Rattle.places.proofs.register.Register.fill.Goals as goal
 
 pub returns : goal.returns
-returns c = record { key = refl; places = book-set _ _ _ _ }
+returns c = (refl, book-set _ _ _ _)
