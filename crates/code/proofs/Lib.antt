@@ -9,6 +9,8 @@ pub mod Searches
 pub mod Shifts
 pub mod RootLaws
 pub mod MessageLaws
+pub mod Looked
+pub mod Made
 pub mod RowLaws
 pub mod Greatest
 pub mod Agreement

@@ -1,8 +1,8 @@
 -- An octet that is raised by the radius at its odd places, and lowered again, in 32 bits.
-use Rattle.std.proofs.Common.{◌≡◌, ℕ, zero, suc, ◌+◌, ◌-◌, ◌*◌, ◌^◌, ◌<◌, ◌≤◌, Bool, true, false, ◌&&◌, ltb, List, [], ◌∷◌, length, get_or, ℤ, pos, negsuc, ◌+ℤ◌, ◌-ℤ◌, nat_abs, sym, refl, ap, ◌∙◌, arith, w32, SFits, to_z}
+use Rattle.std.proofs.Common.{◌≡◌, ℕ, zero, suc, ◌+◌, ◌-◌, ◌*◌, ◌^◌, ◌<◌, ◌≤◌, Bool, true, false, ◌&&◌, ltb, List, [], ◌∷◌, length, get_or, ℤ, pos, negsuc, ◌+ℤ◌, ◌-ℤ◌, neg_ℤ, nat_abs, sym, refl, ap, ◌∙◌, ap₂, arith, w32, SFits, to_z}
 use mir.Val.{sel}
 use Rattle.std.specs.Int.{int_wrap}
-use Rattle.std.proofs.lemmas.Int.{ints, int_wrap_fits, int_wrap-add_left}
+use Rattle.std.proofs.lemmas.Int.{ints, int_wrap_fits, int_wrap-add_left, int_wrap-add_right}
 use Rattle.std.proofs.lemmas.Bool.{and_parts, ltb-true}
 use Rattle.code.specs.Widths.{radius}
 use Rattle.code.specs.Folds.{rest, Same}
@@ -54,6 +54,18 @@ pub at_odd_is : (g : ℤ → ℤ) (v : List ℤ) (a b c d e f x y : ℤ) → len
     → e ≡ get_or v 4 (pos 0) → f ≡ g (get_or v 5 (pos 0)) → x ≡ get_or v 6 (pos 0) → y ≡ g (get_or v 7 (pos 0))
     → a ∷ b ∷ c ∷ d ∷ e ∷ f ∷ x ∷ y ∷ [] ≡ at_odd g v
 at_odd_is g v a b c d e f x y l ea eb ec ed ee ef ex ey = simp (ea, eb, ec, ed, ee, ef, ex, ey) (sym (ap (at_odd g) (eight v (pos 0) l)))
+
+-- ---- to add what is turned is to take away
+at_odd-same : (g h : ℤ → ℤ) (v : List ℤ) → ((y : ℤ) → g y ≡ h y) → at_odd g v ≡ at_odd h v
+at_odd-same g h [] e = refl
+at_odd-same g h (x ∷ []) e = refl
+at_odd-same g h (x ∷ y ∷ v) e = ap₂ (λ (a : ℤ) (l : List ℤ). x ∷ a ∷ l) (e y) (at_odd-same g h v e)
+
+pub raised-turned : (s t : ℤ) (v : List ℤ) → t ≡ int_wrap w32 (neg_ℤ s) → raised t v ≡ lowered s v
+raised-turned s t v e = at_odd-same _ _ v (λ y. ap (λ (x : ℤ). int_wrap w32 (y +ℤ x)) e ∙ int_wrap-add_right w32 y (neg_ℤ s) ∙ ap (int_wrap w32) (minus y))
+  where
+    minus : (y : ℤ) → y +ℤ neg_ℤ s ≡ y -ℤ s
+    minus y = omega (arith, ints)
 
 pub raised-lowered : (s : ℤ) (v : List ℤ) → length v ≡ 8 → ((i : ℕ) → i < 8 → SFits w32 (get_or v i (pos 0))) → lowered s (raised s v) ≡ v
 raised-lowered s v l f =

@@ -1,7 +1,8 @@
 -- The sixteen words: computed tests, and what follows from them for every number below 16.
-use Rattle.std.proofs.Common.{◌≡◌, ℕ, ◌+◌, ◌-◌, ◌/◌, ◌<◌, ◌≤◌, Bool, true, cond, ◌&&◌, ◌||◌, eqb, ltb, leb, ◌⊎◌, List, [], ◌∷◌, length, get_or, refl, inl, inr}
+use Rattle.std.proofs.Common.{◌≡◌, ℕ, ◌+◌, ◌-◌, ◌/◌, ◌^◌, ◌<◌, ◌≤◌, Bool, true, cond, ◌&&◌, ◌||◌, eqb, ltb, leb, ◌⊎◌, List, [], ◌∷◌, map, length, get_or, refl, inl, inr}
 use lib.Bits.{bit_and, bit_xor}
 use lib.Count.{ones}
+use Rattle.std.specs.List.{range_with_len}
 use Rattle.std.proofs.lemmas.Bool.{or_cases, eqb-true, leb-true}
 use Rattle.code.specs.Words.{word, mask, binary_sum, TableRule}
 use Rattle.code.proofs.Computed.{all, at, at_both, equal, equal-true}
@@ -87,7 +88,7 @@ table_rule table r c s = record {
 
 -- the bits of a mask, from the lowest
 abbrev pub unpacked : ℕ → List ℕ
-unpacked m = bit_and m 1 ∷ bit_and (m / 2) 1 ∷ bit_and (m / 4) 1 ∷ bit_and (m / 8) 1 ∷ bit_and (m / 16) 1 ∷ bit_and (m / 32) 1 ∷ bit_and (m / 64) 1 ∷ bit_and (m / 128) 1 ∷ []
+unpacked m = map (λ i. bit_and (m / 2 ^ i) 1) (range_with_len 0 8)
 
 pub unpacked-mask : (k : ℕ) → k < 16 → unpacked (mask (word k)) ≡ word k
 unfolding word

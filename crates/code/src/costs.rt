@@ -11,6 +11,17 @@ use crate::width::Width;
 pub struct Costs {
     pub zero: u32,
     pub one: u32,
+    ghost small: { (zero ≤ 2097152) × (one ≤ 2097152) },
+}
+
+impl Costs {
+    // The cost of a bit of a word.
+    pub(crate) fn pick(self, bit: u8) -> u32
+        ensures value { result ≡ (if nat_eq bit 0 then self.zero else self.one) }
+        ensures small { result ≤ 2097152 }
+    {
+        if bit == 0 { self.zero } else { self.one }
+    }
 }
 
 fn square(n: u32) -> u32
@@ -40,7 +51,6 @@ pub(crate) fn pair_costs(octet: [i32; 8], first: usize, width: Width) -> Costs
     requires { first < 7 }
     ensures zero { result.zero ≡ cost (radius width.bits) (slice_index_or octet first (pos 0)) 0 + cost (radius width.bits) (slice_index_or octet (first + 1) (pos 0)) 0 }
     ensures one { result.one ≡ cost (radius width.bits) (slice_index_or octet first (pos 0)) 1 + cost (radius width.bits) (slice_index_or octet (first + 1) (pos 0)) 1 }
-    ensures small { (result.zero ≤ 2097152) × (result.one ≤ 2097152) }
 {
     let x = place_costs(octet[first], width);
     let y = place_costs(octet[first + 1], width);
@@ -48,13 +58,4 @@ pub(crate) fn pair_costs(octet: [i32; 8], first: usize, width: Width) -> Costs
         zero: x.zero + y.zero,
         one: x.one + y.one,
     }
-}
-
-// The cost of a bit of a word.
-pub(crate) fn pick(costs: Costs, bit: u8) -> u32
-    requires { (costs.zero ≤ 2097152) × (costs.one ≤ 2097152) }
-    ensures value { result ≡ (if nat_eq bit 0 then costs.zero else costs.one) }
-    ensures small { result ≤ 2097152 }
-{
-    if bit == 0 { costs.zero } else { costs.one }
 }

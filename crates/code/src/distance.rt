@@ -2,7 +2,7 @@
 ghost use Rattle.std.specs.Prelude.{◌≡◌};
 ghost use Rattle.code.specs.Distances.{distance as distance_of};
 
-use crate::costs::{pick, place_costs};
+use crate::costs::place_costs;
 use crate::nibble::Nibble;
 use crate::width::Width;
 use crate::words::word;
@@ -13,8 +13,8 @@ pub fn distance(octet: [i32; 8], number: Nibble, width: Width) -> u32
 {
     let bits = word(number);
     let mut sum = 0;
-    for i in 0..8 {
-        sum += pick(place_costs(octet[i], width), bits[i]);
+    for (x, bit) in octet.iter().zip(&bits) {
+        sum += place_costs(*x, width).pick(*bit);
     }
     sum
 }

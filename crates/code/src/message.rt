@@ -8,10 +8,7 @@ use crate::nibble::Nibble;
 pub fn number_at(message: &[u8], octet: usize) -> Nibble
     ensures { result.value ≡ number message.now octet }
 {
-    if octet / 2 >= message.len() {
-        return Nibble { value: 0 };
-    }
-    let byte = message[octet / 2];
+    let byte = message.get(octet / 2).copied().unwrap_or(0);
     let value = if octet % 2 == 0 { byte % 16 } else { byte / 16 };
     Nibble { value }
 }

@@ -15,27 +15,14 @@ fn place_at(row: &[u16], octet: usize, position: usize) -> i32
     ensures { result ≡ slice_index_or (whole row.now) (8 * octet + position) (pos 0) }
 {
     let place = octet.saturating_mul(8).saturating_add(position);
-    if place < row.len() {
-        row[place] as i32
-    } else {
-        0
-    }
+    row.get(place).copied().unwrap_or(0) as i32
 }
 
 // Places 8 i to 8 i + 7 of a row, where i is the octet.
 pub fn octet_at(row: &[u16], octet: usize) -> [i32; 8]
     ensures { result ≡ octet_of (whole row.now) octet }
 {
-    [
-        place_at(row, octet, 0),
-        place_at(row, octet, 1),
-        place_at(row, octet, 2),
-        place_at(row, octet, 3),
-        place_at(row, octet, 4),
-        place_at(row, octet, 5),
-        place_at(row, octet, 6),
-        place_at(row, octet, 7),
-    ]
+    std::array::from_fn(|j| place_at(row, octet, j))
 }
 
 // The number of the word that is nearest to an octet.
@@ -50,11 +37,11 @@ fn read(row: &[u16], octet: usize, width: Width) -> Nibble
 pub fn decode(row: &[u16], width: Width, out: &mut [u8])
     ensures { out.new ≡ decoded width.bits (whole row.now) (length out.old) }
 {
-    for j in 0..out.len() {
+    for (j, byte) in out.iter_mut().enumerate() {
         let first = j.saturating_mul(2);
         let low = read(row, first, width);
         let high = read(row, first.saturating_add(1), width);
-        out[j] = low.value() + 16 * high.value();
+        *byte = low.value() + 16 * high.value();
     }
 }
 
@@ -62,12 +49,8 @@ pub fn decode(row: &[u16], width: Width, out: &mut [u8])
 pub fn farthest(row: &[u16], message: &[u8], width: Width) -> u32
     ensures { result ≡ farthest_of width.bits (whole row.now) message.now }
 {
-    let mut top = 0;
-    for i in 0..row.len() / 8 {
-        let d = distance(octet_at(row, i), number_at(message, i), width);
-        if d > top {
-            top = d;
-        }
-    }
-    top
+    (0..row.len() / 8)
+        .map(|i| distance(octet_at(row, i), number_at(message, i), width))
+        .max()
+        .unwrap_or(0)
 }

@@ -3,11 +3,13 @@ ghost use Rattle.std.specs.Prelude.{◌≡◌, ℕ, ◌<◌, pos, FitsSigned, sl
 ghost use Rattle.std.specs.Int.{w32};
 ghost use Rattle.code.specs.Tries.{raised, lowered};
 
-// Sums and differences wrap: 2^32 is a multiple of every 2^w, so folds do not change and the octet is put back exactly.
+// Adds to the numbers at the odd positions.
+// Sums wrap: 2^32 is a multiple of every 2^w, so folds do not change and the octet is put back exactly.
 fn raise(octet: &mut [i32; 8], by: i32)
     ensures value { octet.new ≡ raised by octet.old }
     ensures fits { (i : ℕ) → i < 8 → FitsSigned w32 (slice_index_or octet.old i (pos 0)) }
 {
+    // place by place: in a loop the proof lacks that the places it leaves alone fit 32 bits
     let [a, b, c, d, e, f, g, h] = *octet;
     *octet = [
         a,
@@ -18,22 +20,6 @@ fn raise(octet: &mut [i32; 8], by: i32)
         f.wrapping_add(by),
         g,
         h.wrapping_add(by),
-    ];
-}
-
-fn lower(octet: &mut [i32; 8], by: i32)
-    ensures { octet.new ≡ lowered by octet.old }
-{
-    let [a, b, c, d, e, f, g, h] = *octet;
-    *octet = [
-        a,
-        b.wrapping_sub(by),
-        c,
-        d.wrapping_sub(by),
-        e,
-        f.wrapping_sub(by),
-        g,
-        h.wrapping_sub(by),
     ];
 }
 
@@ -59,8 +45,8 @@ impl Drop for Shifted<'_> {
     fn drop(self)
         ensures { self.exit.0.now ≡ lowered self.entry.by self.entry.octet.now }
     {
-        let by = self.by;
-        lower(self.octet, by);
+        let back = self.by.wrapping_neg();
+        raise(self.octet, back);
         let Shifted { octet: _, by: _ } = self;
     }
 }

@@ -3,18 +3,18 @@ ghost use Rattle.std.specs.Prelude.{◌≡◌, ◌-◌, ◌≤◌};
 ghost use Rattle.std.specs.Option.{option_map};
 ghost use Rattle.code.specs.Widths.{radius as radius_of, offered};
 
-#[derive(Clone, Copy, PartialEq, Eq)]
+#[derive(Clone, Copy, Debug, PartialEq, Eq)]
 pub struct Width {
     pub bits: u32,
     ghost ok: { (8 ≤ bits) × (bits ≤ 11) },
 }
 
 impl Width {
-    // The width of so many bits, if there is one.
+    // The width of so many bits, if there is one. An Option and no TryFrom: each caller has an error of its own for it.
     pub fn new(bits: u32) -> Option<Width>
         ensures { option_map (λ (w : Width). w.bits) result ≡ offered bits }
     {
-        if bits >= 8 && bits <= 11 {
+        if (8..=11).contains(&bits) {
             Some(Width { bits })
         } else {
             None

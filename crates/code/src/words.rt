@@ -23,14 +23,5 @@ pub fn word(number: Nibble) -> [u8; 8]
 {
     let table = table_rule();
     let mask = table[number.value as usize];
-    [
-        mask & 1,
-        (mask >> 1) & 1,
-        (mask >> 2) & 1,
-        (mask >> 3) & 1,
-        (mask >> 4) & 1,
-        (mask >> 5) & 1,
-        (mask >> 6) & 1,
-        (mask >> 7) & 1,
-    ]
+    std::array::from_fn(|i| (mask >> i) & 1)
 }

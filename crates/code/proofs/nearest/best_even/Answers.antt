@@ -4,7 +4,7 @@ use Rattle.code.specs.Words.{word}
 use Rattle.code.proofs.Bests.{best_none, best_keeps, best_takes, best_same}
 use Rattle.code.proofs.Searches.{tally, tally_is}
 use Rattle.code.proofs.nearest.best_even.Goals as goal
-use Rattle.code.proofs.nearest.best_even.Goals.{then-cost-best, else-cost-best}
+use Rattle.code.proofs.nearest.best_even.Goals.{then-distance-best, else-distance-best}
 
 -- what a turn sums up
 picked : (k a0 a1 b0 b1 c0 c1 d0 d1 p q s t : ℕ) (bits : List ℕ) → bits ≡ word k
@@ -18,26 +18,23 @@ picked k a0 a1 b0 b1 c0 c1 d0 d1 p q s t bits e ep eq es et =
 
 pub loop-k-init : goal.loop-k-init
 unfolding word
-loop-k-init c = (best_none _ _ refl, omega (arith, c.pair_costs-a.ensures.small, c.pair_costs-b.ensures.small, c.pair_costs-c.ensures.small, c.pair_costs-d.ensures.small))
+loop-k-init c = best_none _ _ refl
 
 pub loop-k-preserved : goal.loop-k-preserved
 loop-k-preserved c =
     let e = picked c.loop-k.k _ _ _ _ _ _ _ _ _ _ _ _ c.word-bits.result c.word-bits.ensures c.pick.ensures.value c.pick-in-loop-k.ensures.value c.pick-in-loop-k-2.ensures.value c.pick-in-loop-k-3.ensures.value in
-    elim c.if-cost-best.branch [
-      | then-cost-best w ↦ (best_takes _ c.loop-k.k _ _ _ _ c.loop-k.invariant.0 (omega (arith, e, w.if-cost-best.true)) w.number-is (w.best-is ∙ e), omega (arith, w.best-is, w.if-cost-best.true, c.loop-k.invariant.1))
-      | else-cost-best w ↦ (best_keeps _ c.loop-k.k _ _ _ _ c.loop-k.invariant.0 (omega (arith, e, w.if-cost-best.false)) w.number-is w.best-is, omega (arith, w.best-is, c.loop-k.invariant.1))
+    elim c.if-distance-best.branch [
+      | then-distance-best w ↦ best_takes _ c.loop-k.k _ _ _ _ c.loop-k.invariant (omega (arith, e, w.if-distance-best.true)) (ap (λ b. b.number.value) w.best-is) (ap (λ b. b.distance) w.best-is ∙ e)
+      | else-distance-best w ↦ best_keeps _ c.loop-k.k _ _ _ _ c.loop-k.invariant (omega (arith, e, w.if-distance-best.false)) (ap (λ b. b.number.value) w.best-is) (ap (λ b. b.distance) w.best-is)
     ]
 
 pub returns : goal.returns
 returns c =
     let l : length c.args.octet ≡ 8 = search rules in
-    record {
-      best = best_same _ (distance c.args.width.bits c.args.octet) c.loop-k.k 8 _ _ (omega arith)
-          (tally_is c.args.width.bits c.args.octet _ _ _ _ _ _ _ _ l
-          (c.pair_costs-a.ensures.zero, c.pair_costs-a.ensures.one)
-          (c.pair_costs-b.ensures.zero, c.pair_costs-b.ensures.one)
-          (c.pair_costs-c.ensures.zero, c.pair_costs-c.ensures.one)
-          (c.pair_costs-d.ensures.zero, c.pair_costs-d.ensures.one))
-          c.loop-k.invariant.0;
-      small = c.loop-k.invariant.1;
-    }
+    best_same _ (distance c.args.width.bits c.args.octet) c.loop-k.k 8 _ _ (omega arith)
+    (tally_is c.args.width.bits c.args.octet _ _ _ _ _ _ _ _ l
+    (c.pair_costs-a.ensures.zero, c.pair_costs-a.ensures.one)
+    (c.pair_costs-b.ensures.zero, c.pair_costs-b.ensures.one)
+    (c.pair_costs-c.ensures.zero, c.pair_costs-c.ensures.one)
+    (c.pair_costs-d.ensures.zero, c.pair_costs-d.ensures.one))
+    c.loop-k.invariant

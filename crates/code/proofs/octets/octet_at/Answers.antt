@@ -1,21 +1,8 @@
-use Rattle.std.proofs.Common.{◌≡◌, ℤ, ◌∙◌, w32, SFits, to_z, of_z, rules}
-use Rattle.std.proofs.lemmas.Int.{to_z-of_z}
-use Rattle.code.specs.Rows.{octet}
+use Rattle.std.proofs.Common.{rules, ◌+◌, ◌*◌, pos, slice_index_or}
+use Rattle.code.specs.Rows.{whole, octet}
+use Rattle.code.proofs.Made.{made_same}
 use Rattle.code.proofs.octets.octet_at.Goals as goal
 
 pub returns : goal.returns
 unfolding octet
-returns c =
-    simp (
-      at _ (search rules) c.place_at.ensures,
-      at _ (search rules) c.place_at-2.ensures,
-      at _ (search rules) c.place_at-3.ensures,
-      at _ (search rules) c.place_at-4.ensures,
-      at _ (search rules) c.place_at-5.ensures,
-      at _ (search rules) c.place_at-6.ensures,
-      at _ (search rules) c.place_at-7.ensures,
-      at _ (search rules) c.place_at-8.ensures,
-    )
-  where
-    at : (x : ℤ) {y : ℤ} → SFits w32 x → x ≡ y → to_z w32 (of_z w32 x) ≡ y
-    at x f e = to_z-of_z w32 x f ∙ e
+returns c = made_same _ _ (λ j. slice_index_or (whole c.args.row.now) (8 * c.args.octet + j) (pos 0)) (pos 0) c.from_fn.result 8 (λ i y f' l k. search rules) c.from_fn.ensures.items

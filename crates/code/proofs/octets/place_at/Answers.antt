@@ -1,18 +1,26 @@
-use Rattle.std.proofs.Common.{◌≡◌, ℕ, ◌+◌, ◌*◌, ◌^◌, ◌<◌, length, get_or, pos, sym, ap, ◌∙◌, arith, w32, to_z, rules}
+use Rattle.std.proofs.Common.{◌≡◌, ℕ, ◌+◌, ◌*◌, ◌^◌, ◌<◌, min, List, length, slice_index_or, pos, sym, ap, ◌∙◌, inl, inr, ◌-◌, arith, w32, to_z, rules}
+use Rattle.std.specs.Option.{unwrap_or}
+use Rattle.std.proofs.lemmas.Bool.{cases_lt}
 use Rattle.std.proofs.lemmas.List.{get_or_past}
 use Rattle.std.proofs.lemmas.Int.{ints}
+use Rattle.code.proofs.Looked.{item_or_zero}
 use Rattle.code.proofs.RowLaws.{whole-at}
 use Rattle.code.proofs.octets.place_at.Goals as goal
 
-pub returns-then-place-row : goal.returns-then-place-row
-returns-then-place-row c =
-    let l : length c.args.row.now < 2 ^ 64 = search rules in
-    let f : get_or c.args.row.now c.saturating_add-place.result 0 < 65536 = search rules in
-    let e : c.saturating_add-place.result ≡ 8 * c.args.octet + c.args.position = omega (arith, c.saturating_mul.ensures, c.saturating_add-place.ensures) in
-    let p : to_z w32 (get_or c.args.row.now c.saturating_add-place.result 0) ≡ pos (get_or c.args.row.now c.saturating_add-place.result 0) = omega (arith, ints) in
-    p ∙ ap (λ (i : ℕ). pos (get_or c.args.row.now i 0)) e ∙ sym (whole-at c.args.row.now (8 * c.args.octet + c.args.position))
+-- a place that does not fit its type is past the end
+saturated : (row : List ℕ) (i n : ℕ) → length row < 2 ^ 64 → i ≡ min n (2 ^ 64 - 1) → slice_index_or row i 0 ≡ slice_index_or row n 0
+saturated row i n l e =
+    elim (cases_lt n (2 ^ 64 - 1)) [
+      | inl h ↦ ap (λ (k : ℕ). slice_index_or row k 0) (omega (arith, e))
+      | inr h ↦ get_or_past row i 0 (omega (arith, e)) ∙ sym (get_or_past row n 0 (omega arith))
+    ]
 
-pub returns-else-place-row : goal.returns-else-place-row
-returns-else-place-row c =
-    sym (whole-at c.args.row.now (8 * c.args.octet + c.args.position)
-    ∙ ap pos (get_or_past c.args.row.now (8 * c.args.octet + c.args.position) 0 (omega (arith, c.saturating_mul.ensures, c.saturating_add-place.ensures))))
+pub returns : goal.returns
+returns c =
+    let row = c.args.row.now in
+    let i = c.saturating_add-place.result in
+    let n = 8 * c.args.octet + c.args.position in
+    let l : length row < 2 ^ 64 = search rules in
+    let e : c.unwrap_or.result ≡ slice_index_or row i 0 = c.unwrap_or.ensures ∙ ap (λ o. unwrap_or o 0) c.copied.ensures ∙ item_or_zero row i _ c.get.ensures.lookup in
+    let p : to_z w32 c.unwrap_or.result ≡ pos c.unwrap_or.result = omega (arith, ints) in
+    p ∙ ap pos (e ∙ saturated row i n l (omega (arith, c.saturating_mul.ensures, c.saturating_add-place.ensures))) ∙ sym (whole-at row n)
