@@ -1,9 +1,8 @@
 -- Bits that were loaded and not yet taken: a number p below 2 ^ c, with more digits above it.
-use Rattle.std.proofs.Common.{◌≡◌, ℕ, ◌+◌, ◌-◌, ◌*◌, ◌/◌, ◌%◌, ◌^◌, ◌<◌, ◌≤◌, List, length, get_or, drop, ap, ◌∙◌, subst, arith}
+use Rattle.std.proofs.Common.{◌≡◌, ℕ, ◌+◌, ◌-◌, ◌*◌, ◌/◌, ◌%◌, ◌^◌, ◌<◌, ◌≤◌, List, ◌∷◌, ap, ◌∙◌, subst, arith}
 use native.Mathlib.Nat.{add-mul-div_right, add-mul-mod_self_right}
 use lib.Bits.{bit_and}
 use Rattle.std.proofs.lemmas.Nat.{pow_pos, pow-add, one_shl, and_mask, mul-add-lt, shr_below}
-use Rattle.std.proofs.lemmas.List.{drop_more}
 use Rattle.packing.specs.Digits.{value}
 
 -- the number that p, c bits long, and then digits of w bits make
@@ -19,12 +18,10 @@ pub low_bits : (p w : ℕ) → w < 32 → bit_and p ((1 * 2 ^ w) % 2 ^ 32 - 1) �
 low_bits p w room = ap (λ m. bit_and p (m - 1)) (one_shl w 32 room) ∙ and_mask p w
 
 -- loading a digit leaves the number as it is
-pub loaded : (p c w i q : ℕ) (xs : List ℕ) → i < length xs → q ≡ p + get_or xs i 0 * 2 ^ c
-    → stream q (c + w) w (drop (i + 1) xs) ≡ stream p c w (drop i xs)
+pub loaded : (p c w x q k : ℕ) (xs rest : List ℕ) → xs ≡ x ∷ rest → q ≡ p + x * 2 ^ c → k ≡ c + w → stream q k w rest ≡ stream p c w xs
 unfolding value
-loaded p c w i q xs within q-is =
-    let e = ap (value (2 ^ w)) (drop_more xs i 0 within) in
-    omega (arith, e, ap (λ v. 2 ^ c * v) e, ap (λ q. q * value (2 ^ w) (drop (i + 1) xs)) (pow-add 2 c w))
+loaded p c w x q k xs rest e q-is k-is =
+    omega (arith, ap (λ v. 2 ^ c * v) (ap (value (2 ^ w)) e), ap (λ q. q * value (2 ^ w) rest) (ap (λ j. 2 ^ j) k-is ∙ pow-add 2 c w), q-is)
 
 -- a power of two in two parts
 pub pow_split : (c w : ℕ) → w ≤ c → 2 ^ c ≡ 2 ^ (c - w) * 2 ^ w

@@ -45,7 +45,7 @@ pub fn unpack_key(n: usize, bytes: &[u8], out: &mut [u16]) -> Result<(), Refusal
 fn check_shape(n: usize, numbers: usize, bytes: usize) -> Result<(), Refusal>
     ensures { result ≡ shape_answer n numbers bytes }
 {
-    if n % 16 != 0 || n < 16 || n > 1024 {
+    if n % 16 != 0 || !(16..=1024).contains(&n) {
         return Err(Refusal::Mismatch);
     }
     if numbers != n || bytes != n * 12 / 8 {

@@ -3,5 +3,6 @@
 
 pub mod bits;
 pub mod keys;
+mod narrow;
 mod pending;
 pub mod rows;

@@ -1,13 +1,13 @@
 // Rows of numbers of 8 to 12 bits each as bytes and back, low bits first.
-ghost use Rattle.std.specs.Prelude.{◌≡◌, ◌*◌, ◌^◌, ◌≤◌, true, length, Ok};
+ghost use Rattle.std.specs.Prelude.{◌≡◌, ◌*◌, ◌^◌, true, length, Ok, Err, MatchResult};
 ghost use Rattle.ring.specs.Engines.{all_below};
 ghost use Rattle.packing.specs.Digits.{packed, unpacked};
 ghost use Rattle.packing.specs.Answers.{lengths_answer, pack_row_answer, written};
 ghost use Rattle.packing.specs.Laws.{RoundTrips};
 
 use crate::bits::BitReader;
-use crate::bits::reading::check_width;
-use crate::pending::above;
+use crate::narrow::Narrow;
+use crate::pending::Pending;
 use ring::engine::below;
 use ring::refusal::Refusal;
 
@@ -21,11 +21,11 @@ pub fn pack_row(width: u32, row: &[u16], out: &mut [u8]) -> Result<(), Refusal>
     ensures answers { result ≡ pack_row_answer width row.now (length out.old) }
     ensures writes { out.new ≡ written result (packed width row.now) out.old }
 {
-    check_lengths(width, row.len(), out.len())?;
+    let narrow = check_lengths(width, row.len(), out.len())?;
     if !below(1 << width, row) {
         return Err(Refusal::Residue);
     }
-    write_row(width, row, out);
+    write_row(narrow, row, out);
     Ok(())
 }
 
@@ -34,53 +34,49 @@ pub fn unpack_row(width: u32, bytes: &[u8], out: &mut [u16]) -> Result<(), Refus
     ensures answers { result ≡ lengths_answer width (length out.old) (length bytes.now) }
     ensures writes { out.new ≡ written result (unpacked width (length out.old) bytes.now) out.old }
 {
-    check_lengths(width, out.len(), bytes.len())?;
-    read_row(width, bytes, out)
+    let narrow = check_lengths(width, out.len(), bytes.len())?;
+    read_row(narrow, bytes, out)
 }
 
-// Whether numbers of a width fill bytes to the last bit; the products may pass 64 bits.
-fn check_lengths(width: u32, numbers: usize, bytes: usize) -> Result<(), Refusal>
-    ensures { result ≡ lengths_answer width numbers bytes }
+// The width, if numbers of it fill bytes to the last bit; the products may pass 64 bits.
+fn check_lengths(width: u32, numbers: usize, bytes: usize) -> Result<Narrow, Refusal>
+    ensures { MatchResult result (λ w. (w.bits ≡ width) × (lengths_answer width numbers bytes ≡ Ok tt)) (λ e. lengths_answer width numbers bytes ≡ Err e) }
 {
-    check_width(width)?;
+    let narrow = Narrow::try_from(width)?;
     if bytes as u128 * 8 != numbers as u128 * width as u128 {
         return Err(Refusal::Length);
     }
-    Ok(())
+    Ok(narrow)
 }
 
 // Writes the bytes of a row whose numbers and length fit.
-fn write_row(width: u32, row: &[u16], out: &mut [u8])
-    requires narrow { (8 ≤ width) × (width ≤ 12) }
-    requires fits { all_below (2 ^ width) row.now ≡ true }
-    requires fills { length out.old * 8 ≡ length row.now * width }
-    ensures { out.new ≡ packed width row.now }
+fn write_row(width: Narrow, row: &[u16], out: &mut [u8])
+    requires fits { all_below (2 ^ width.bits) row.now ≡ true }
+    requires fills { length out.old * 8 ≡ length row.now * width.bits }
+    ensures { out.new ≡ packed width.bits row.now }
 {
-    let mut next = 0;
-    let mut pending: u32 = 0;
-    let mut count: u32 = 0;
-    for x in row {
-        pending = above(pending, count, *x as u32);
-        count += width;
-        while count >= 8 {
-            out[next] = (pending & 0xff) as u8;
-            pending >>= 8;
-            count -= 8;
-            next += 1;
+    let mut left = row;
+    let mut pending = Pending::none();
+    for place in out.iter_mut() {
+        // a number has 8 bits or more, and the last places have one left
+        if pending.count < 8 {
+            let (x, rest) = left.split_first().unwrap();
+            pending.load(*x as u32, width.bits);
+            left = rest;
         }
+        *place = pending.pass_on(8) as u8;
     }
 }
 
 // Reads as many numbers as there are places, which the bytes have exactly the bits for.
-fn read_row(width: u32, bytes: &[u8], out: &mut [u16]) -> Result<(), Refusal>
-    requires narrow { (8 ≤ width) × (width ≤ 12) }
-    requires fills { length bytes.now * 8 ≡ length out.old * width }
+fn read_row(width: Narrow, bytes: &[u8], out: &mut [u16]) -> Result<(), Refusal>
+    requires { length bytes.now * 8 ≡ length out.old * width.bits }
     ensures answers { result ≡ Ok tt }
-    ensures writes { out.new ≡ unpacked width (length out.old) bytes.now }
+    ensures writes { out.new ≡ unpacked width.bits (length out.old) bytes.now }
 {
     let mut reader = BitReader::new(bytes);
     for place in out.iter_mut() {
-        *place = reader.take(width)?;
+        *place = reader.take(width.bits)?;
     }
     Ok(())
 }

@@ -5,16 +5,15 @@ ghost use Rattle.packing.specs.Answers.{width_answer, enough_answer, taken};
 ghost use Rattle.packing.specs.Reading.{unread, left};
 
 use super::BitReader;
-use crate::pending::above;
+use crate::narrow::Narrow;
+use crate::pending::Pending;
 use ring::refusal::Refusal;
 
 // Whether numbers of this width are packed.
 pub fn check_width(width: u32) -> Result<(), Refusal>
     ensures { result ≡ width_answer width }
 {
-    if width < 8 || width > 12 {
-        return Err(Refusal::Width);
-    }
+    Narrow::try_from(width)?;
     Ok(())
 }
 
@@ -26,9 +25,7 @@ impl<'a> BitReader<'a> {
     {
         BitReader {
             bytes,
-            next: 0,
-            pending: 0,
-            count: 0,
+            pending: Pending::none(),
         }
     }
 
@@ -37,41 +34,35 @@ impl<'a> BitReader<'a> {
         ensures answers { result ≡ taken width (left self.old) (unread self.old) }
         ensures moves { MatchResult result (λ _. (unread self.new ≡ unread self.old / 2 ^ width) × (left self.new + width ≡ left self.old)) (λ _. (unread self.new ≡ unread self.old) × (left self.new ≡ left self.old)) }
     {
-        check_width(width)?;
-        self.load(width)?;
-        Ok(self.pass_on(width))
+        let narrow = Narrow::try_from(width)?;
+        self.load(narrow)?;
+        Ok(self.pass_on(narrow))
     }
 
     // Makes at least `width` bits pending.
-    fn load(&mut self, width: u32) -> Result<(), Refusal>
-        requires { (8 ≤ width) × (width ≤ 12) }
-        ensures answers { result ≡ enough_answer width (left self.old) }
-        ensures enough { OnOk result (width ≤ self.new.count) }
+    fn load(&mut self, width: Narrow) -> Result<(), Refusal>
+        ensures answers { result ≡ enough_answer width.bits (left self.old) }
+        ensures enough { OnOk result (width.bits ≤ self.new.pending.count) }
         ensures number { unread self.new ≡ unread self.old }
         ensures bits { left self.new ≡ left self.old }
     {
-        while self.count < width {
-            if self.next >= self.bytes.len() {
+        while self.pending.count < width.bits {
+            let Some((byte, rest)) = self.bytes.split_first() else {
                 return Err(Refusal::Length);
-            }
-            let byte = self.bytes[self.next];
-            self.pending = above(self.pending, self.count, byte as u32);
-            self.count += 8;
-            self.next += 1;
+            };
+            self.pending.load(*byte as u32, 8);
+            self.bytes = rest;
         }
         Ok(())
     }
 
     // The lowest `width` of the pending bits as a number.
-    fn pass_on(&mut self, width: u32) -> u16
-        requires { (width ≤ 12) × (width ≤ self.old.count) }
-        ensures answers { result ≡ unread self.old % 2 ^ width }
-        ensures number { unread self.new ≡ unread self.old / 2 ^ width }
-        ensures bits { left self.new + width ≡ left self.old }
+    fn pass_on(&mut self, width: Narrow) -> u16
+        requires { width.bits ≤ self.old.pending.count }
+        ensures answers { result ≡ unread self.old % 2 ^ width.bits }
+        ensures number { unread self.new ≡ unread self.old / 2 ^ width.bits }
+        ensures bits { left self.new + width.bits ≡ left self.old }
     {
-        let number = self.pending & ((1 << width) - 1);
-        self.pending >>= width;
-        self.count -= width;
-        number as u16
+        self.pending.pass_on(width.bits) as u16
     }
 }

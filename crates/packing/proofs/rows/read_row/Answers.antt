@@ -7,23 +7,23 @@ use Rattle.packing.proofs.rows.read_row.Goals as goal
 
 pub loop-place-init : goal.loop-place-init
 loop-place-init c =
-    let w = c.args.width in
+    let w = c.args.width.bits in
     let out = c.args.out.now in
     let whole = value 256 c.args.bytes.now in
     let all : length out ≡ length out - 0 = omega arith in (
       subst (λ v. Filling (2 ^ w) out 0 v whole) (sym c.new-reader.ensures.number) (fill_none (2 ^ w) out whole),
-      omega (arith, c.new-reader.ensures.bits, c.requires.fills, ap (λ k. k * w) all),
+      omega (arith, c.new-reader.ensures.bits, c.requires, ap (λ k. k * w) all),
     )
 
 pub returns-in_err-place : goal.returns-in_err-place
 returns-in_err-place c =
-    let w = c.args.width in
+    let w = c.args.width.bits in
     let some = one_left w (length c.loop-place.out - c.loop-place.place-index) (omega arith) in
-    absurd (taken_never w _ _ _ c.requires.narrow.0 c.requires.narrow.1 (omega arith) c.in_err-place.ensures.answers)
+    absurd (taken_never w _ _ _ c.args.width.ok.0 c.args.width.ok.1 (omega arith) c.in_err-place.ensures.answers)
 
 pub loop-place-preserved : goal.loop-place-preserved
 loop-place-preserved c =
-    let w = c.args.width in
+    let w = c.args.width.bits in
     let out = c.loop-place.out in
     let i = c.loop-place.place-index in
     let x = c.in_ok-place.field-0 in
@@ -36,7 +36,7 @@ loop-place-preserved c =
 pub returns : goal.returns
 unfolding unpacked
 returns c =
-    let w = c.args.width in
+    let w = c.args.width.bits in
     let out = c.loop-place.out in
     let whole = value 256 c.args.bytes.now in
     let over : length out ≤ c.loop-place.place-index = omega arith in

@@ -1,20 +1,18 @@
-use Rattle.std.proofs.Common.{drop, sym, ◌∙◌, arith}
+use Rattle.std.proofs.Common.{◌≡◌, ◌+◌, ◌-◌, ◌*◌, ◌^◌, sym, ◌∙◌, ap₂, arith}
 use Rattle.packing.specs.Digits.{value}
-use Rattle.packing.proofs.Streams.{rest_is, lowest_is, rest_lt, low_bits}
+use Rattle.packing.proofs.Streams.{rest_is, lowest_is}
 use Rattle.packing.proofs.bits.BitReader.pass_on.Goals as goal
 
-pub invariant_of-self : goal.invariant_of-self
-invariant_of-self c =
+pub returns-clause-answers : goal.returns-clause-answers
+returns-clause-answers c =
     let reader = c.args.self.now in
-    record { ok = (omega arith, rest_lt reader.pending reader.count c.args.width c.requires.1 reader.ok.1) }
+    let w = c.args.width.bits in
+    c.pass_on.ensures.answers ∙ sym (lowest_is reader.pending.number reader.pending.count w (value 256 reader.bytes.now) c.requires)
 
-pub returns : goal.returns
-returns c =
+pub returns-clause-number : goal.returns-clause-number
+returns-clause-number c =
     let reader = c.args.self.now in
-    let w = c.args.width in
-    let v = value 256 (drop reader.next reader.bytes.now) in
-    record {
-      answers = low_bits reader.pending w (omega arith) ∙ sym (lowest_is reader.pending reader.count w v c.requires.1);
-      number = sym (rest_is reader.pending reader.count w v c.requires.1);
-      bits = omega arith;
-    }
+    let w = c.args.width.bits in
+    let v = value 256 reader.bytes.now in
+    let fewer : c.pass_on.new.self.count ≡ reader.pending.count - w = omega (arith, c.pass_on.ensures.count) in
+    ap₂ (λ n k. n + 2 ^ k * v) c.pass_on.ensures.number fewer ∙ sym (rest_is reader.pending.number reader.pending.count w v c.requires)
