@@ -2,7 +2,7 @@
 ghost use Rattle.std.specs.Prelude.{◌≡◌, ◌+◌, ◌*◌, ◌/◌, ◌%◌, ◌^◌, ◌<◌, ◌≤◌};
 
 // `number` is what the lowest `count` of the bits to come make.
-#[derive(Clone, Copy)]
+#[derive(Drop)]
 pub(crate) struct Pending {
     number: u32,
     pub(crate) count: u32,
@@ -27,7 +27,7 @@ impl Pending {
         ensures number { self.new.number ≡ self.old.number + number * 2 ^ self.old.count }
         ensures count { self.new.count ≡ self.old.count + width }
     {
-        self.number = self.number + (number << self.count);
+        self.number += number << self.count;
         self.count += width;
     }
 

@@ -58,7 +58,7 @@ fn write_row(width: Narrow, row: &[u16], out: &mut [u8])
     let mut left = row;
     let mut pending = Pending::none();
     for place in out.iter_mut() {
-        // a number has 8 bits or more, and the last places have one left
+        // one number fills up a byte, as it has 8 bits or more; there is one, as the row has bits for every place
         if pending.count < 8 {
             let (x, rest) = left.split_first().unwrap();
             pending.load(*x as u32, width.bits);
