@@ -10,7 +10,7 @@ pub struct Width {
 }
 
 impl Width {
-    // The width of so many bits, if there is one. An Option and no TryFrom: each caller has an error of its own for it.
+    // The width of so many bits, if there is one. An Option and no TryFrom: what to refuse with is for the callers to say.
     pub fn new(bits: u32) -> Option<Width>
         ensures { option_map (λ (w : Width). w.bits) result ≡ offered bits }
     {
