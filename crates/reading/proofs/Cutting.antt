@@ -1,40 +1,35 @@
 -- A text is cut at its first byte that separates, and its parts are the first one and those of what follows.
-use Rattle.std.proofs.Common.{◌≡◌, ℕ, zero, suc, ◌+◌, ◌<◌, ◌≤◌, Bool, true, false, cond, List, [], ◌∷◌, length, get_or, take, drop, Some, None, Option, refl, ap, ◌∙◌, add-one, arith}
-use native.Mathlib.Nat.{sub-zero}
-use Rattle.std.proofs.lemmas.Slice.{between_to_end}
-use Rattle.std.specs.List.{between}
+use Rattle.std.proofs.Common.{◌≡◌, ℕ, suc, ◌+◌, Bool, true, false, not, cond, ltb, List, [], ◌∷◌, length, take, drop, position, Some, None, Option, refl, ap, ◌∙◌, add-one, arith}
+use Rattle.std.proofs.Math.Numerals.{one-add}
+use Rattle.std.proofs.lemmas.Bool.{lt-ltb}
+use Rattle.std.proofs.lemmas.Bool.Decides.{nat_tests}
+use Rattle.std.specs.List.{position_or_len}
 use Rattle.std.specs.Option.{option_map}
 use Rattle.reading.specs.Cuts.{in_front, split_at, onto, parts_of}
 
+below_next : (n m : ℕ) → ltb (1 + n) (suc m) ≡ ltb n m
+below_next n m = grind (arith, nat_tests)
+
 module _ (p : ℕ → Bool) where
-  -- no byte before i separates
-  abbrev pub Whole : List ℕ → ℕ → Type 0
-  Whole text i = (k : ℕ) → k < i → p (get_or text k 0) ≡ false
+  -- the parts before and after a place
+  abbrev around : List ℕ → ℕ → List ℕ × List ℕ
+  around text i = (take i text, drop (i + 1) text)
 
-  whole-rest : (byte : ℕ) (text : List ℕ) (i : ℕ) → Whole (byte ∷ text) (suc i) → Whole text i
-  whole-rest byte text i whole k less = whole (suc k) (omega arith)
-
-  found : (text : List ℕ) (i : ℕ) → i < length text → Whole text i → p (get_or text i 0) ≡ true
-      → split_at p text ≡ Some (take i text, drop (suc i) text)
-  unfolding split_at
-  found [] i less whole cut = absurd (omega arith)
-  found (byte ∷ text) zero less whole cut = rw cut
-  found (byte ∷ text) (suc i) less whole cut =
-      rw (whole 0 (omega arith), found text i (omega arith) (whole-rest byte text i whole) cut)
+  further : (byte : ℕ) (text : List ℕ) (n : ℕ) (b : Bool)
+      → option_map (in_front byte) (option_map (around text) (cond b (Some n) None)) ≡ option_map (around (byte ∷ text)) (cond b (Some (1 + n)) None)
+  further byte text n true = rw (one-add n, add-one n, add-one (suc n)) refl
+  further byte text n false = refl
 
   -- cut at the first byte that separates
-  pub split_found : (text : List ℕ) (i : ℕ) → i < length text → Whole text i → p (get_or text i 0) ≡ true
-      → Some (between 0 i text, between (i + 1) (length text) text) ≡ split_at p text
-  split_found text i less whole cut =
-      let end : length text ≤ length text = omega arith in
-      rw (between_to_end text (i + 1) (length text), add-one, sub-zero, found text i less whole cut)
-
-  -- not cut where no byte separates
-  pub split_none : (text : List ℕ) → Whole text (length text) → split_at p text ≡ None
+  pub split_first : (text : List ℕ) → split_at p text ≡ option_map (around text) (position p text)
   unfolding split_at
-  split_none [] whole = refl
-  split_none (byte ∷ text) whole =
-      rw (whole 0 (omega arith), split_none text (whole-rest byte text (length text) whole))
+  split_first [] = refl
+  split_first (byte ∷ text) =
+      elim (p byte) as (λ b. cond b (Some ([], text)) (option_map (in_front byte) (split_at p text))
+      ≡ (let n = cond (not b) (1 + position_or_len p text) 0 in option_map (around (byte ∷ text)) (cond (ltb n (suc (length text))) (Some n) None))) [
+        | true ↦ rw (lt-ltb 0 (suc (length text)) (omega arith)) refl
+        | false ↦ ap (option_map (in_front byte)) (split_first text) ∙ rw (below_next (position_or_len p text) (length text)) (further byte text (position_or_len p text) (ltb (position_or_len p text) (length text)))
+      ]
 
   -- the parts of a text that was cut, or was not
   abbrev parts_by : List ℕ → Option (List ℕ × List ℕ) → List (List ℕ)

@@ -2,6 +2,7 @@ pub mod Stepping
 pub mod Cutting
 pub mod Counting
 pub mod Pairing
+pub mod Seeking
 pub mod Narrowing
 pub mod Rereading
 pub mod Spacing

@@ -1,18 +1,18 @@
 -- Bytes read pair by pair.
-use Rattle.std.proofs.Common.{◌≡◌, ℕ, ◌+◌, ◌*◌, ◌<◌, ◌≤◌, List, [], ◌∷◌, length, get_or, drop, Ok, arith}
-use Rattle.std.proofs.lemmas.List.{drop_more, drop_all}
+use Rattle.std.proofs.Common.{◌≡◌, ℕ, zero, suc, ◌*◌, List, [], ◌∷◌, length, get_or, Result, refl, ap, arith}
+use Rattle.std.specs.Simd.{first_chunks}
+use Rattle.reading.specs.declared.fault.Unread.{Unread}
 use Rattle.reading.specs.Hex.{byte_of, pairs}
-use Rattle.reading.specs.Steps.{then}
+use Rattle.reading.specs.Rows.{each}
 
--- the next pair of those that are left
-pub pairs-more : (text : List ℕ) (i : ℕ) → 2 * i + 1 < length text
-    → pairs (drop (2 * i) text) ≡ then (byte_of (get_or text (2 * i) 0) (get_or text (2 * i + 1) 0)) (λ byte. then (pairs (drop (2 * (i + 1)) text)) (λ bytes. Ok (byte ∷ bytes)))
-unfolding pairs
-pairs-more text i less =
-    let low : 2 * i < length text = omega arith in
-    let two : 2 * (i + 1) ≡ 2 * i + 1 + 1 = omega arith in
-    rw (two, drop_more text (2 * i) 0 low, drop_more text (2 * i + 1) 0 less)
+-- the byte of a pair
+abbrev pub byte_by : List ℕ → Result ℕ Unread
+byte_by pair = byte_of (get_or pair 0 0) (get_or pair 1 0)
 
-pub pairs-done : (text : List ℕ) (i : ℕ) → length text ≤ 2 * i → pairs (drop (2 * i) text) ≡ Ok []
-unfolding pairs
-pairs-done text i all = rw (drop_all (2 * i) text all)
+pub pairs_by_twos : (n : ℕ) (text : List ℕ) → length text ≡ 2 * n → pairs text ≡ each byte_by (first_chunks 2 n text)
+unfolding pairs each
+pairs_by_twos zero [] even = refl
+pairs_by_twos zero (high ∷ text) even = absurd (omega arith)
+pairs_by_twos (suc n) [] even = absurd (omega arith)
+pairs_by_twos (suc n) (high ∷ []) even = absurd (omega arith)
+pairs_by_twos (suc n) (high ∷ low ∷ text) even = rw (pairs_by_twos n text (omega arith))

@@ -10,7 +10,10 @@ use Rattle.std.specs.List.{All}
 use Rattle.std.specs.Str.{IsUtf8}
 use Rattle.reading.specs.Cuts.{white, onto, parts_of}
 use Rattle.reading.specs.Lines.{filled, words_of}
-use Rattle.reading.proofs.Cutting.{Whole}
+
+-- no byte before i separates
+abbrev Whole : (ℕ → Bool) → List ℕ → ℕ → Type 0
+Whole p text i = (k : ℕ) → k < i → p (get_or text k 0) ≡ false
 
 abbrev Texts : List (List ℕ) → Type 0
 Texts [] = Unit {0}

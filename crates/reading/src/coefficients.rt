@@ -17,10 +17,7 @@ impl Coefficient for u16 {
     ghost reads = { natural };
 
     fn of(value: i32) -> Result<u16, Unread> {
-        if value < 0 || value > 65535 {
-            return Err(Unread::Number);
-        }
-        Ok(value as u16)
+        u16::try_from(value).map_err(|_| Unread::Number)
     }
 }
 
@@ -28,9 +25,6 @@ impl Coefficient for i16 {
     ghost reads = { whole };
 
     fn of(value: i32) -> Result<i16, Unread> {
-        if value < -32768 || value > 32767 {
-            return Err(Unread::Number);
-        }
-        Ok(value as i16)
+        i16::try_from(value).map_err(|_| Unread::Number)
     }
 }

@@ -5,7 +5,6 @@ ghost use Rattle.reading.specs.Memory.{faulty, Spared};
 ghost use Rattle.reading.specs.Steps.{seen};
 
 use crate::fault::{Fault, Unread};
-use crate::text;
 use std::alloc::Global;
 
 // The value of a hexadecimal digit.
@@ -34,14 +33,15 @@ pub fn read(heap: Global, word: &[u8]) -> Result<Vec<u8>, Fault>
     ensures { Spared (seen vec_items result) (faulty (bytes_of word.now)) }
 {
     let mut out = Vec::new(heap);
-    if text::same(word, b"-") {
+    if word == b"-".as_slice() {
         return Ok(out);
     }
-    if word.len() % 2 != 0 {
+    let (pairs, rest) = word.as_chunks::<2>();
+    if !rest.is_empty() {
         return Err(Fault::Unread(Unread::Hex));
     }
-    for i in 0..word.len() / 2 {
-        out.push(byte(word[2 * i], word[2 * i + 1])?)?;
+    for [high, low] in pairs {
+        out.push(byte(*high, *low)?)?;
     }
     Ok(out)
 }

@@ -1,7 +1,10 @@
 // A text cut at the bytes that separate its parts.
-ghost use Rattle.std.specs.Prelude.{◌≡◌};
+ghost use Rattle.std.specs.Prelude.{◌≡◌, length};
+ghost use Rattle.std.specs.Iterator.{at_most, YieldsFirstBy};
 ghost use Rattle.std.specs.Option.{option_map};
-ghost use Rattle.reading.specs.Cuts.{cuts, split_at, both_now, parts_of, pieces_left, first, others};
+ghost use Rattle.reading.specs.Cuts.{cuts, split_at, both_now, parts_of, pieces_left};
+
+use std::iter::Iterator;
 
 // What stands between two parts: white space, or one byte.
 #[derive(Clone, Copy)]
@@ -16,7 +19,7 @@ impl Separator {
         ensures { result ≡ cuts self byte }
     {
         match self {
-            Separator::White => byte == b' ' || (9 <= byte && byte <= 13),
+            Separator::White => matches!(byte, b' ' | b'\t'..=b'\r'),
             Separator::Byte(code) => byte == code,
         }
     }
@@ -26,12 +29,8 @@ impl Separator {
 pub(crate) fn split_once(text: &[u8], separator: Separator) -> Option<(&[u8], &[u8])>
     ensures { option_map both_now result ≡ split_at (cuts separator) text.now }
 {
-    for (i, byte) in text.iter().enumerate() {
-        if separator.is(*byte) {
-            return Some((&text[0..i], &text[i + 1..]));
-        }
-    }
-    None
+    let i = text.iter().position(|byte| separator.is(*byte))?;
+    Some((&text[..i], &text[i + 1..]))
 }
 
 // The parts of a text one after another; a text without a separator is one part.
@@ -50,15 +49,17 @@ impl<'a> Pieces<'a> {
             separator,
         }
     }
+}
 
-    // The next part, if there is one.
-    pub(crate) fn next(&mut self) -> Option<&'a [u8]>
-        ensures answers { option_map (λ x. x.now) result ≡ first (pieces_left self.old) }
-        ensures leaves { pieces_left self.new ≡ others (pieces_left self.old) }
-    {
-        let Some(text) = self.rest else {
-            return None;
-        };
+impl<'a> Iterator for Pieces<'a> {
+    type Item = &'a [u8];
+
+    ghost next_gives = { YieldsFirstBy (λ x. x.now) pieces_left };
+
+    ghost remaining = { λ s. at_most (length (pieces_left s)) };
+
+    fn next(&mut self) -> Option<&'a [u8]> {
+        let text = self.rest?;
         match split_once(text, self.separator) {
             Some((part, rest)) => {
                 self.rest = Some(rest);

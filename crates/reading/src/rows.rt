@@ -9,8 +9,8 @@ ghost use Rattle.reading.specs.Steps.{seen};
 
 use crate::coefficients::Coefficient;
 use crate::fault::{Fault, Unread};
+use crate::numbers;
 use crate::pieces::{Pieces, Separator, split_once};
-use crate::{numbers, text};
 use std::alloc::Global;
 
 // The longest row that a script may write.
@@ -45,7 +45,7 @@ fn term(row: &mut [i32], text: &[u8], next: usize) -> Result<usize, Unread>
         return Ok(next + 1);
     };
     let value = numbers::signed(word)?;
-    if text::same(place, b"*") {
+    if place == b"*".as_slice() {
         fill(row, value);
     } else {
         put(row, numbers::number(place)?, value)?;
@@ -57,9 +57,8 @@ fn term(row: &mut [i32], text: &[u8], next: usize) -> Result<usize, Unread>
 fn write(row: &mut [i32], terms: &[u8]) -> Result<(), Unread>
     ensures { seen (λ _. row.new) result ≡ terms_of 0 row.old (parts_of (cuts comma) terms.now) }
 {
-    let mut pieces = Pieces::new(terms, Separator::Byte(b','));
     let mut next = 0;
-    while let Some(text) = pieces.next() {
+    for text in Pieces::new(terms, Separator::Byte(b',')) {
         next = term(row, text, next)?;
     }
     Ok(())
@@ -84,7 +83,7 @@ fn numbers_of(heap: Global, text: &[u8], degree: usize) -> Result<Vec<i32>, Faul
         return Err(Fault::Unread(Unread::Row));
     }
     let mut row = vec![in heap; 0i32; length]?;
-    if text::same(terms, b"-") {
+    if terms == b"-".as_slice() {
         return Ok(row);
     }
     write(row.as_mut_slice(), terms)?;

@@ -6,21 +6,21 @@ ghost use Rattle.reading.specs.Spaces.{white_two, white_last, white_rare, white_
 fn is_two(a: u8, b: u8) -> bool
     ensures { result ≡ white_two a b }
 {
-    a == 0xC2 && (b == 0x85 || b == 0xA0)
+    a == 0xC2 && matches!(b, 0x85 | 0xA0)
 }
 
 // Whether this is the last byte of U+2000 to U+200A, U+2028, U+2029 or U+202F.
 fn is_last(c: u8) -> bool
     ensures { result ≡ white_last c }
 {
-    (0x80 <= c && c <= 0x8A) || (c == 0xA8 || (c == 0xA9 || c == 0xAF))
+    matches!(c, 0x80..=0x8A | 0xA8 | 0xA9 | 0xAF)
 }
 
 // Whether these are the bytes of U+1680 or U+3000.
 fn is_rare(a: u8, b: u8, c: u8) -> bool
     ensures { result ≡ white_rare a b c }
 {
-    (a == 0xE1 && (b == 0x9A && c == 0x80)) || (a == 0xE3 && (b == 0x80 && c == 0x80))
+    matches!((a, b, c), (0xE1, 0x9A, 0x80) | (0xE3, 0x80, 0x80))
 }
 
 // Whether these are the bytes of U+2000 to U+200A, U+2028, U+2029, U+202F or U+205F.
@@ -47,7 +47,7 @@ fn white_bytes(a: u8, b: u8, c: u8) -> usize
 fn byte_at(text: &[u8], i: usize) -> u8
     ensures { result ≡ slice_index_or text.now i 0 }
 {
-    if i < text.len() { text[i] } else { 0 }
+    text.get(i).copied().unwrap_or(0)
 }
 
 // How many bytes of white space are to come at the front of a text, where `left` of a character that has begun are.

@@ -7,6 +7,7 @@ ghost use Rattle.reading.specs.Steps.{seen};
 
 use crate::fault::Unread;
 use crate::pieces::{Pieces, Separator};
+use std::iter::Iterator;
 
 #[derive(Drop)]
 pub struct Words<'a> {
@@ -27,12 +28,7 @@ impl<'a> Words<'a> {
         ensures answers { option_map (λ x. x.now) result ≡ first (words_left self.old) }
         ensures leaves { words_left self.new ≡ others (words_left self.old) }
     {
-        while let Some(piece) = self.pieces.next() {
-            if !piece.is_empty() {
-                return Some(piece);
-            }
-        }
-        None
+        self.pieces.find(|piece| !piece.is_empty())
     }
 
     // The next word, which the command needs.
@@ -40,10 +36,7 @@ impl<'a> Words<'a> {
         ensures answers { seen (λ x. x.now) result ≡ ok_or (first (words_left self.old)) Unread.Words }
         ensures leaves { words_left self.new ≡ others (words_left self.old) }
     {
-        match self.optional() {
-            Some(word) => Ok(word),
-            None => Err(Unread::Words),
-        }
+        self.optional().ok_or(Unread::Words)
     }
 
     // No word may be left.
