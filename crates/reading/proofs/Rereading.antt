@@ -5,16 +5,13 @@ use Rattle.std.proofs.lemmas.Str.Parse.{digit_at}
 use Rattle.reading.specs.Laws.{NumbersReturn}
 use Rattle.reading.specs.Numerals.{one_more, more_digits, digits_of, after_sign, unsigned_of, signed_of}
 use Rattle.reading.specs.Steps.{then}
-
-sign_free : (sign : ℕ) (text : List ℕ) → sign < 48 → 48 ≤ get_or text 0 0 → after_sign sign text ≡ None
-sign_free sign [] low digit = refl
-sign_free sign (code ∷ text) low digit = rw (ne_eqb code sign (λ e. omega arith))
+use Rattle.reading.proofs.Parsing.{sign_free}
 
 -- no sign stands before a number that is written
 no_sign : (sign n : ℕ) → sign < 48 → n < 2 ^ 64 → after_sign sign (decimal n) ≡ None
 no_sign sign n low small =
     let reads = (decimal_is_IsNumeral n small).0 in
-    sign_free sign (decimal n) low (digit_at (decimal n) 0 reads.1 reads.0).0
+    sign_free sign (decimal n) (λ e. omega (arith, (digit_at (decimal n) 0 reads.1 reads.0).0))
 
 module _ (most : ℕ) where
   more_append : (n : ℕ) (xs ys : List ℕ) → more_digits most n (xs ++ ys) ≡ then (more_digits most n xs) (λ v. more_digits most v ys)

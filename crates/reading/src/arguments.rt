@@ -60,10 +60,7 @@ impl Words<'_> {
         ensures answers { leaving (λ n. n) self.new result ≡ number_if_any (words_left self.old) }
         ensures leaves { words_left self.new ≡ others (words_left self.old) }
     {
-        match self.optional() {
-            Some(word) => Ok(Some(numbers::number(word)?)),
-            None => Ok(None),
-        }
+        Ok(self.optional().map(numbers::number).transpose()?)
     }
 
     // The length of a buffer, if the line gives one.

@@ -42,6 +42,7 @@ pub enum Fault {
     Memory,
 }
 
+// By hand, since the contracts go by which fault a `?` makes (`from_gives`), which a derive does not say.
 impl From<AllocError> for Fault {
     ghost from_gives = { λ _ r. r ≡ Memory };
 

@@ -30,10 +30,8 @@ pub fn given(words: &mut Words<'_>) -> Result<Option<usize>, Unread>
     ensures answers { result ≡ given_length (words_left words.old) }
     ensures leaves { words_left words.new ≡ others (words_left words.old) }
 {
-    match words.optional() {
-        Some(word) => Ok(Some(buffer(numbers::number(word)?))),
-        None => Ok(None),
-    }
+    let length = words.optional().map(numbers::number).transpose()?;
+    Ok(length.map(buffer))
 }
 
 // The length that the line gives, else the right one.
@@ -41,8 +39,5 @@ pub fn given_or(words: &mut Words<'_>, right: usize) -> Result<usize, Unread>
     ensures answers { result ≡ given_length_or right (words_left words.old) }
     ensures leaves { words_left words.new ≡ others (words_left words.old) }
 {
-    match given(words)? {
-        Some(length) => Ok(length),
-        None => Ok(buffer(right)),
-    }
+    Ok(given(words)?.unwrap_or(buffer(right)))
 }

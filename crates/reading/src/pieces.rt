@@ -7,7 +7,7 @@ ghost use Rattle.reading.specs.Cuts.{cuts, split_at, both_now, parts_of, pieces_
 use std::iter::Iterator;
 
 // What stands between two parts: white space, or one byte.
-#[derive(Clone, Copy)]
+#[derive(Clone, Copy, PartialEq, Eq, Debug)]
 pub(crate) enum Separator {
     White,
     Byte(u8),

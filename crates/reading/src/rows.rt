@@ -22,6 +22,7 @@ pub fn put(row: &mut [i32], place: usize, value: i32) -> Result<(), Unread>
     ensures writes { row.new ≡ slice_set row.old place value }
     ensures step { seen (λ _. row.new) result ≡ put_at place value row.old }
 {
+    // By index, since a proof knows nothing of what is written through `get_mut`.
     if place >= row.len() {
         return Err(Unread::Row);
     }
