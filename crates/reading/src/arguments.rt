@@ -1,6 +1,6 @@
 // The arguments of a command, each the next word of its line.
 ghost use Rattle.std.specs.Prelude.{◌≡◌, vec_items};
-ghost use Rattle.reading.specs.Arguments.{leaving, argument, number_if_any, length_if_any, length_or};
+ghost use Rattle.reading.specs.Arguments.{leaving, argument, number_if_any};
 ghost use Rattle.reading.specs.Cuts.{others};
 ghost use Rattle.reading.specs.Hex.{bytes_of};
 ghost use Rattle.reading.specs.Lines.{words_left};
@@ -11,7 +11,7 @@ ghost use Rattle.reading.specs.Rows.{row_by};
 use crate::coefficients::Coefficient;
 use crate::fault::Fault;
 use crate::words::Words;
-use crate::{hex, lengths, numbers, rows};
+use crate::{hex, numbers, rows};
 use std::alloc::Global;
 
 impl Words<'_> {
@@ -61,21 +61,5 @@ impl Words<'_> {
         ensures leaves { words_left self.new ≡ others (words_left self.old) }
     {
         Ok(self.optional().map(numbers::number).transpose()?)
-    }
-
-    // The length of a buffer, if the line gives one.
-    pub fn length(&mut self) -> Result<Option<usize>, Fault>
-        ensures answers { leaving (λ n. n) self.new result ≡ length_if_any (words_left self.old) }
-        ensures leaves { words_left self.new ≡ others (words_left self.old) }
-    {
-        Ok(lengths::given(self)?)
-    }
-
-    // The length of a buffer, which is the right one where the line gives none.
-    pub fn length_or(&mut self, right: usize) -> Result<usize, Fault>
-        ensures answers { leaving (λ n. n) self.new result ≡ length_or right (words_left self.old) }
-        ensures leaves { words_left self.new ≡ others (words_left self.old) }
-    {
-        Ok(lengths::given_or(self, right)?)
     }
 }

@@ -11,5 +11,4 @@ pub mod numbers;
 mod pieces;
 pub mod rows;
 pub mod spaces;
-pub mod text;
 pub mod words;

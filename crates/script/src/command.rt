@@ -12,7 +12,6 @@ use crate::task::Task;
 use crate::{request, task};
 use reading::coefficients::Coefficient;
 use reading::fault::{Fault, Unread};
-use reading::text;
 use reading::words::Words;
 use ring::turning::Turning;
 use std::alloc::Global;
@@ -61,22 +60,17 @@ fn key(heap: Global, words: &mut Words<'_>, degree: usize) -> Result<Command, Fa
 fn named(heap: Global, name: &[u8], words: &mut Words<'_>, degree: usize) -> Result<Command, Fault>
     ensures { Spared (leaving asked_of words.new result) (named_line name.now degree (words_left words.old)) }
 {
-    if text::same(name, b"engines") {
-        return engines(words);
-    }
-    if text::same(name, b"key") {
-        return key(heap, words, degree);
-    }
-    if text::same(name, b"commission") {
-        return Ok(Command::Commission);
+    match name {
+        b"engines" => return engines(words),
+        b"key" => return key(heap, words, degree),
+        b"commission" => return Ok(Command::Commission),
+        _ => {}
     }
     if let Some(task) = TaskName::of(name) {
         return Ok(Command::Apart(task::read(heap, task, words)?));
     }
-    match CallName::of(name) {
-        Some(call) => Ok(Command::Station(request::called(heap, call, words, degree)?)),
-        None => Err(Fault::Unread(Unread::Command)),
-    }
+    let call = CallName::of(name).ok_or(Unread::Command)?;
+    Ok(Command::Station(request::called(heap, call, words, degree)?))
 }
 
 // The command of that name with exactly the words that follow it. A row of a draft's or a station's

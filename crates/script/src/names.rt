@@ -2,9 +2,7 @@
 ghost use Rattle.std.specs.Prelude.{◌≡◌};
 ghost use Rattle.script.specs.Names.{call_name, task_name};
 
-use reading::text;
-
-#[derive(Clone, Copy)]
+#[derive(Clone, Copy, PartialEq, Eq, Debug)]
 pub(crate) enum CallName {
     Deposit,
     Join,
@@ -17,7 +15,7 @@ pub(crate) enum CallName {
     Alike,
 }
 
-#[derive(Clone, Copy)]
+#[derive(Clone, Copy, PartialEq, Eq, Debug)]
 pub(crate) enum TaskName {
     Seal,
     Unseal,
@@ -31,34 +29,18 @@ impl CallName {
     pub(crate) fn of(word: &[u8]) -> Option<CallName>
         ensures { result ≡ call_name word.now }
     {
-        if text::same(word, b"deposit") {
-            return Some(CallName::Deposit);
+        match word {
+            b"deposit" => Some(CallName::Deposit),
+            b"join" => Some(CallName::Join),
+            b"trim" => Some(CallName::Trim),
+            b"clear" => Some(CallName::Clear),
+            b"open" => Some(CallName::Open),
+            b"handout" => Some(CallName::HandOut),
+            b"publish" => Some(CallName::Publish),
+            b"tell" => Some(CallName::Tell),
+            b"alike" => Some(CallName::Alike),
+            _ => None,
         }
-        if text::same(word, b"join") {
-            return Some(CallName::Join);
-        }
-        if text::same(word, b"trim") {
-            return Some(CallName::Trim);
-        }
-        if text::same(word, b"clear") {
-            return Some(CallName::Clear);
-        }
-        if text::same(word, b"open") {
-            return Some(CallName::Open);
-        }
-        if text::same(word, b"handout") {
-            return Some(CallName::HandOut);
-        }
-        if text::same(word, b"publish") {
-            return Some(CallName::Publish);
-        }
-        if text::same(word, b"tell") {
-            return Some(CallName::Tell);
-        }
-        if text::same(word, b"alike") {
-            return Some(CallName::Alike);
-        }
-        None
     }
 }
 
@@ -67,21 +49,13 @@ impl TaskName {
     pub(crate) fn of(word: &[u8]) -> Option<TaskName>
         ensures { result ≡ task_name word.now }
     {
-        if text::same(word, b"seal") {
-            return Some(TaskName::Seal);
+        match word {
+            b"seal" => Some(TaskName::Seal),
+            b"unseal" => Some(TaskName::Unseal),
+            b"pack" => Some(TaskName::Pack),
+            b"unpack" => Some(TaskName::Unpack),
+            b"multiply" => Some(TaskName::Multiply),
+            _ => None,
         }
-        if text::same(word, b"unseal") {
-            return Some(TaskName::Unseal);
-        }
-        if text::same(word, b"pack") {
-            return Some(TaskName::Pack);
-        }
-        if text::same(word, b"unpack") {
-            return Some(TaskName::Unpack);
-        }
-        if text::same(word, b"multiply") {
-            return Some(TaskName::Multiply);
-        }
-        None
     }
 }

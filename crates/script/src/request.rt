@@ -4,7 +4,7 @@ ghost use Rattle.reading.specs.Arguments.{leaving};
 ghost use Rattle.reading.specs.Lines.{words_left};
 ghost use Rattle.reading.specs.Memory.{Spared};
 ghost use Rattle.script.specs.Asked.{request_asked};
-ghost use Rattle.script.specs.Calls.{deposit_line, join_line, trim_line, clear_line, open_line, hand_out_line, publish_line, tell_line, alike_line, call_line, named_call};
+ghost use Rattle.script.specs.Calls.{deposit_line, open_line, hand_out_line, publish_line, call_line, named_call};
 
 use crate::names::CallName;
 use reading::fault::{Fault, Unread};
@@ -67,33 +67,11 @@ fn deposit(heap: Global, words: &mut Words<'_>, degree: usize) -> Result<Request
     })
 }
 
-fn join(words: &mut Words<'_>) -> Result<Request, Fault>
-    ensures { leaving request_asked words.new result ≡ join_line (words_left words.old) }
-{
-    let first = words.number()?;
-    let second = words.number()?;
-    Ok(Request::Join { first, second })
-}
-
-fn trim(words: &mut Words<'_>) -> Result<Request, Fault>
-    ensures { leaving request_asked words.new result ≡ trim_line (words_left words.old) }
-{
-    let place = words.number()?;
-    Ok(Request::Trim { place })
-}
-
-fn clear(words: &mut Words<'_>) -> Result<Request, Fault>
-    ensures { leaving request_asked words.new result ≡ clear_line (words_left words.old) }
-{
-    let place = words.number()?;
-    Ok(Request::Clear { place })
-}
-
 fn open(words: &mut Words<'_>, degree: usize) -> Result<Request, Fault>
     ensures { leaving request_asked words.new result ≡ open_line degree (words_left words.old) }
 {
     let place = words.number()?;
-    let length = words.length_or(degree / 16)?;
+    let length = lengths::given_or(words, degree / 16)?;
     Ok(Request::Open { place, length })
 }
 
@@ -101,30 +79,15 @@ fn hand_out(words: &mut Words<'_>) -> Result<Request, Fault>
     ensures { leaving request_asked words.new result ≡ hand_out_line (words_left words.old) }
 {
     let place = words.number()?;
-    let length = words.length()?;
+    let length = lengths::given(words)?;
     Ok(Request::HandOut { place, length })
 }
 
 fn publish(words: &mut Words<'_>, degree: usize) -> Result<Request, Fault>
     ensures { leaving request_asked words.new result ≡ publish_line degree (words_left words.old) }
 {
-    let length = words.length_or(lengths::bytes_for(degree, 12))?;
+    let length = lengths::given_or(words, lengths::bytes_for(degree, 12))?;
     Ok(Request::Publish { length })
-}
-
-fn tell(words: &mut Words<'_>) -> Result<Request, Fault>
-    ensures { leaving request_asked words.new result ≡ tell_line (words_left words.old) }
-{
-    let place = words.number()?;
-    Ok(Request::Tell { place })
-}
-
-fn alike(words: &mut Words<'_>) -> Result<Request, Fault>
-    ensures { leaving request_asked words.new result ≡ alike_line (words_left words.old) }
-{
-    let first = words.number()?;
-    let second = words.number()?;
-    Ok(Request::Alike { first, second })
 }
 
 // The call of that name, read from the words that follow it, with rows of `degree` places.
@@ -136,10 +99,8 @@ pub fn read(
 ) -> Result<Request, Fault>
     ensures { Spared (leaving request_asked words.new result) (named_call name.now degree (words_left words.old)) }
 {
-    match CallName::of(name) {
-        Some(call) => called(heap, call, words, degree),
-        None => Err(Fault::Unread(Unread::Command)),
-    }
+    let call = CallName::of(name).ok_or(Unread::Command)?;
+    called(heap, call, words, degree)
 }
 
 // The same of a call.
@@ -153,13 +114,25 @@ pub(crate) fn called(
 {
     match name {
         CallName::Deposit => deposit(heap, words, degree),
-        CallName::Join => join(words),
-        CallName::Trim => trim(words),
-        CallName::Clear => clear(words),
+        CallName::Join => Ok(Request::Join {
+            first: words.number()?,
+            second: words.number()?,
+        }),
+        CallName::Trim => Ok(Request::Trim {
+            place: words.number()?,
+        }),
+        CallName::Clear => Ok(Request::Clear {
+            place: words.number()?,
+        }),
         CallName::Open => open(words, degree),
         CallName::HandOut => hand_out(words),
         CallName::Publish => publish(words, degree),
-        CallName::Tell => tell(words),
-        CallName::Alike => alike(words),
+        CallName::Tell => Ok(Request::Tell {
+            place: words.number()?,
+        }),
+        CallName::Alike => Ok(Request::Alike {
+            first: words.number()?,
+            second: words.number()?,
+        }),
     }
 }

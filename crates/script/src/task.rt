@@ -60,13 +60,8 @@ pub fn engine(degree: usize, modulus: usize) -> Result<Turning, Fault>
     ensures told { MatchResult result (λ e. (e.degree ≡ degree) × (e.modulus ≡ modulus)) (λ fault. fault ≡ Fault.NoSuchEngine) }
     ensures step { seen told_of result ≡ engine_of degree modulus }
 {
-    let Ok(modulus) = u16::try_from(modulus) else {
-        return Err(Fault::NoSuchEngine);
-    };
-    match Turning::new(degree, modulus) {
-        Some(engine) => Ok(engine),
-        None => Err(Fault::NoSuchEngine),
-    }
+    let modulus = u16::try_from(modulus).map_err(|_| Fault::NoSuchEngine)?;
+    Turning::new(degree, modulus).ok_or(Fault::NoSuchEngine)
 }
 
 // An engine of the degree and the modulus that the line gives.
@@ -87,7 +82,7 @@ pub fn seal(heap: Global, words: &mut Words<'_>) -> Result<Task, Fault>
     let key = words.bytes(heap)?;
     let noise = words.row(heap, degree)?;
     let message = words.bytes(heap)?;
-    let length = words.length_or(lengths::bytes_for(degree, width))?;
+    let length = lengths::given_or(words, lengths::bytes_for(degree, width))?;
     Ok(Task::Seal {
         engine,
         width,
@@ -106,7 +101,7 @@ pub fn unseal(heap: Global, words: &mut Words<'_>) -> Result<Task, Fault>
     let width = words.width()?;
     let f = words.row(heap, degree)?;
     let bytes = words.bytes(heap)?;
-    let length = words.length_or(degree / 16)?;
+    let length = lengths::given_or(words, degree / 16)?;
     Ok(Task::Unseal {
         engine,
         width,
@@ -121,7 +116,7 @@ pub fn pack(heap: Global, words: &mut Words<'_>) -> Result<Task, Fault>
 {
     let degree = words.number()?;
     let row = words.row(heap, degree)?;
-    let length = words.length_or(lengths::bytes_for(degree, 12))?;
+    let length = lengths::given_or(words, lengths::bytes_for(degree, 12))?;
     Ok(Task::Pack {
         degree,
         row,
@@ -134,7 +129,7 @@ pub fn unpack(heap: Global, words: &mut Words<'_>) -> Result<Task, Fault>
 {
     let degree = words.number()?;
     let bytes = words.bytes(heap)?;
-    let length = words.length_or(degree)?;
+    let length = lengths::given_or(words, degree)?;
     Ok(Task::Unpack {
         degree,
         bytes,
@@ -149,7 +144,7 @@ pub fn multiply(heap: Global, words: &mut Words<'_>) -> Result<Task, Fault>
     let degree = engine.degree();
     let left = words.row(heap, degree)?;
     let right = words.row(heap, degree)?;
-    let length = words.length_or(degree)?;
+    let length = lengths::given_or(words, degree)?;
     Ok(Task::Multiply {
         engine,
         left,
