@@ -1,49 +1,48 @@
 -- Where the first line of a text ends, by the place of its first line feed.
-use Rattle.std.proofs.Common.{◌≡◌, ℕ, zero, suc, ◌+◌, ◌<◌, cond, eqb, List, [], ◌∷◌, length, get_or, take, drop, Some, sym, refl, ap, ◌∙◌, arith, Bor}
-use Rattle.std.proofs.lemmas.Bool.{ne_eqb}
+use Rattle.std.proofs.Common.{◌≡◌, ℕ, suc, ◌+◌, ◌<◌, ◌≤◌, Bool, true, false, not, cond, eqb, ◌==◌, List, [], ◌∷◌, length, take, drop, position, Some, None, sym, refl, ap, ◌∙◌, one-add, take_all, arith, Bor}
+use Rattle.std.proofs.lemmas.Bool.Decides.{nat_tests}
+use Rattle.std.proofs.lemmas.List.{drop_all}
+use Rattle.std.specs.List.{position_or_len}
 use Rattle.session.specs.Texts.{Taken, first_line, lines_after}
 
--- no line feed below a place
-abbrev pub Unbroken : List ℕ → ℕ → Type 0
-Unbroken text i = (k : ℕ) → k < i → get_or text k 0 ≡ 10 → ⊥
+-- whether a byte is a line feed
+abbrev pub feed : ℕ → Bool
+feed b = b == 10
 
-unbroken_tail : (b : ℕ) (text : List ℕ) (i : ℕ) → Unbroken (b ∷ text) (suc i) → Unbroken text i
-unbroken_tail b text i none k below = none (suc k) (omega arith)
+line_is : (text : List ℕ) → first_line text ≡ take (position_or_len feed text) text
+line_is [] = refl
+line_is (b ∷ text) = elim (eqb b 10) as (λ t. cond t [] (b ∷ first_line text) ≡ take (cond (not t) (1 + position_or_len feed text) 0) (b ∷ text))
+    [ true ↦ refl | false ↦ rw one-add (ap (λ (r : List ℕ). b ∷ r) (line_is text)) ]
 
-pub line_before : (text : List ℕ) (i : ℕ) → i < length text → Unbroken text i → get_or text i 0 ≡ 10 → first_line text ≡ take i text
-line_before [] i within none here = absurd (omega (arith, within))
-line_before (b ∷ text) zero within none here = ap (λ (x : ℕ). cond (eqb x 10) [] (b ∷ first_line text)) here
-line_before (b ∷ text) (suc i) within none here =
-    ap (λ t. cond t [] (b ∷ first_line text)) (ne_eqb b 10 (none 0 (omega arith)))
-    ∙ ap (λ (r : List ℕ). b ∷ r) (line_before text i (omega (arith, within)) (unbroken_tail b text i none) here)
+lines_are : (text : List ℕ) → lines_after text ≡ drop (position_or_len feed text + 1) text
+lines_are [] = refl
+lines_are (b ∷ text) = elim (eqb b 10) as (λ t. cond t text (lines_after text) ≡ drop (cond (not t) (1 + position_or_len feed text) 0 + 1) (b ∷ text)) [
+  | true ↦ refl
+  | false ↦
+      let n = position_or_len feed text in
+      lines_are text ∙ ap (λ k. drop k (b ∷ text)) (let e : suc (n + 1) ≡ 1 + n + 1 = omega arith in e)
+]
 
-pub lines_past : (text : List ℕ) (i : ℕ) → i < length text → Unbroken text i → get_or text i 0 ≡ 10 → lines_after text ≡ drop (i + 1) text
-lines_past [] i within none here = absurd (omega (arith, within))
-lines_past (b ∷ text) zero within none here = ap (λ (x : ℕ). cond (eqb x 10) text (lines_after text)) here
-lines_past (b ∷ text) (suc i) within none here =
-    ap (λ t. cond t text (lines_after text)) (ne_eqb b 10 (none 0 (omega arith)))
-    ∙ lines_past text i (omega (arith, within)) (unbroken_tail b text i none) here
-    ∙ ap (λ k. drop k (b ∷ text)) (let e : suc (i + 1) ≡ suc i + 1 = omega arith in e)
+taken : (text : List ℕ) (line : Bor (List ℕ)) (after : List ℕ) → 0 < length text → line.now ≡ first_line text → after ≡ lines_after text → Taken text (Some line) after
+taken [] line after more l a = absurd (omega (arith, more))
+taken (b ∷ text) line after more l a = (l, a)
 
-pub line_whole : (text : List ℕ) → Unbroken text (length text) → first_line text ≡ text
-line_whole [] none = refl
-line_whole (b ∷ text) none =
-    ap (λ t. cond t [] (b ∷ first_line text)) (ne_eqb b 10 (none 0 (omega arith)))
-    ∙ ap (λ (r : List ℕ). b ∷ r) (line_whole text (unbroken_tail b text (length text) none))
+at_feed : (text : List ℕ) (i : ℕ) → position feed text ≡ Some i → position_or_len feed text ≡ i
+at_feed text i e = grind (arith, nat_tests)
 
-pub lines_none : (text : List ℕ) → Unbroken text (length text) → lines_after text ≡ []
-lines_none [] none = refl
-lines_none (b ∷ text) none =
-    ap (λ t. cond t text (lines_after text)) (ne_eqb b 10 (none 0 (omega arith)))
-    ∙ lines_none text (unbroken_tail b text (length text) none)
+no_feed : (text : List ℕ) → position feed text ≡ None → length text ≤ position_or_len feed text
+no_feed text e = grind (arith, nat_tests)
 
-pub taken_at : (text : List ℕ) (line : Bor (List ℕ)) (after : List ℕ) (i : ℕ) → i < length text → Unbroken text i → get_or text i 0 ≡ 10
+-- a line ends at the first line feed
+pub broken : (text : List ℕ) (line : Bor (List ℕ)) (after : List ℕ) (i : ℕ) → 0 < length text → position feed text ≡ Some i
     → line.now ≡ take i text → after ≡ drop (i + 1) text → Taken text (Some line) after
-taken_at [] line after i within none here l a = absurd (omega (arith, within))
-taken_at (b ∷ text) line after i within none here l a =
-    (l ∙ sym (line_before (b ∷ text) i within none here), a ∙ sym (lines_past (b ∷ text) i within none here))
+broken text line after i more e l a =
+    let at = at_feed text i e in
+    taken text line after more (l ∙ sym (line_is text ∙ ap (λ k. take k text) at)) (a ∙ sym (lines_are text ∙ ap (λ k. drop (k + 1) text) at))
 
-pub taken-whole : (text : List ℕ) (line : Bor (List ℕ)) (after : List ℕ) → 0 < length text → Unbroken text (length text)
+-- the last line has none
+pub whole : (text : List ℕ) (line : Bor (List ℕ)) (after : List ℕ) → 0 < length text → position feed text ≡ None
     → line.now ≡ text → after ≡ [] → Taken text (Some line) after
-taken-whole [] line after more none l a = absurd (omega (arith, more))
-taken-whole (b ∷ text) line after more none l a = (l ∙ sym (line_whole (b ∷ text) none), a ∙ sym (lines_none (b ∷ text) none))
+whole text line after more e l a =
+    let past = no_feed text e in
+    taken text line after more (l ∙ sym (line_is text ∙ take_all (position_or_len feed text) text past)) (a ∙ sym (lines_are text ∙ drop_all (position_or_len feed text + 1) text (omega arith)))

@@ -31,13 +31,15 @@ impl<'a> Iterator for Lines<'a> {
         if rest.is_empty() {
             return None;
         }
-        for (i, b) in rest.iter().enumerate() {
-            if *b == b'\n' {
+        match rest.iter().position(|b| *b == b'\n') {
+            Some(i) => {
                 self.rest = &rest[i + 1..];
-                return Some(&rest[0..i]);
+                Some(&rest[..i])
+            }
+            None => {
+                self.rest = &[];
+                Some(rest)
             }
         }
-        self.rest = &rest[rest.len()..];
-        Some(rest)
     }
 }

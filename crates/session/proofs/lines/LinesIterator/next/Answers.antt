@@ -1,24 +1,30 @@
-use Rattle.std.proofs.Common.{◌≡◌, ◌+◌, ◌-◌, ◌≢◌, length, take, sym, refl, ap, ◌∙◌, arith, rules}
-use Rattle.std.proofs.lemmas.List.{drop_all, take_rest}
+use Rattle.std.proofs.Common.{◌≡◌, ◌+◌, ◌<◌, ◌≢◌, length, position, sym, refl, ◌∙◌, arith, rules}
+use borrow.Author.Tests.{tests}
 use Rattle.std.proofs.lemmas.Bool.{eqb-false}
-use Rattle.session.proofs.Breaks.{taken_at, taken-whole}
+use Rattle.std.proofs.lemmas.Iterator.{YieldsList-from_slice}
+use Rattle.std.proofs.lemmas.Iterator.Search.{position_from_yields_List}
+use Rattle.std.proofs.lemmas.List.{take_rest}
+use Rattle.session.proofs.Breaks.{feed, broken, whole}
 use Rattle.session.proofs.lines.LinesIterator.next.Goals as goal
 
-pub returns-then-b-eq10 : goal.returns-then-b-eq10
-returns-then-b-eq10 c =
+pub returns-in-Some : goal.returns-in-Some
+returns-in-Some c =
     let text = c.args.self.now.rest.now in
-    let i = c.loop-i.i in
+    let some : length text ≢ 0 = eqb-false (length text) 0 (sym c.if-is_empty.ensures) in
+    let first : c.position.result ≡ position feed text =
+    position_from_yields_List feed _ _ c.position.result c.position.ensures.ran (YieldsList-from_slice text cc) (λ x b q k. search (rules, tests)) in
     record {
-      steps = taken_at text _ _ i c.loop-i-test.true c.loop-i.invariant c.if-b-eq10.true
-          (ap (λ k. take k text) (let e : i - 0 ≡ i = omega arith in e))
-          (take_rest text (i + 1));
+      steps = broken text _ _ c.in-Some.i (omega arith) (sym first ∙ c.in-Some.is) refl (take_rest text (c.in-Some.i + 1));
       goes = search rules;
     }
 
-pub returns : goal.returns
-returns c =
+pub returns-in-None : goal.returns-in-None
+returns-in-None c =
     let text = c.args.self.now.rest.now in
+    let some : length text ≢ 0 = eqb-false (length text) 0 (sym c.if-is_empty.ensures) in
+    let first : c.position.result ≡ position feed text =
+    position_from_yields_List feed _ _ c.position.result c.position.ensures.ran (YieldsList-from_slice text cc) (λ x b q k. search (rules, tests)) in
     record {
-      steps = taken-whole text _ _ (let ne : length text ≢ 0 = eqb-false (length text) 0 (sym c.if-is_empty.ensures) in omega arith) (λ k below. c.loop-i.invariant k (omega (arith, c.loop-i-test.false, below))) refl (take_rest text (length text) ∙ drop_all (length text) text (omega arith));
+      steps = whole text _ _ (omega arith) (sym first ∙ c.in-None.is) refl refl;
       goes = search rules;
     }
