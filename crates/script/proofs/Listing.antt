@@ -1,5 +1,5 @@
 -- Bytes and rows as they are written, from one place to the next.
-use Rattle.std.proofs.Common.{◌≡◌, ℕ, ◌+◌, ◌<◌, ◌≤◌, Bool, false, cond, eqb, List, [], ◌∷◌, ◌++◌, length, get_or, drop, codes, eq-eqb, ne_eqb}
+use Rattle.std.proofs.Common.{◌≡◌, ℕ, ◌+◌, ◌<◌, ◌≤◌, Bool, true, false, cond, eqb, List, [], ◌∷◌, ◌++◌, length, get_or, drop, codes, refl, eq-eqb, ne_eqb}
 use Rattle.std.proofs.lemmas.List.{at_drop_more, at_drop_all}
 use Rattle.script.specs.Written.{byte_digits, hex_of, term_text, terms, listed}
 
@@ -30,3 +30,8 @@ listed_more first row i less some = rw (terms_by row i less, ne_eqb (get_or row 
 pub listed-done : (first : Bool) (row : List ℕ) (i : ℕ) → length row ≤ i → listed first (terms i (drop i row)) ≡ cond first (codes "-") []
 unfolding terms listed
 listed-done first row i all = at_drop_all (λ l. listed first (terms i l)) row i all
+
+-- what stands before the next term tells whether it is the first
+pub first_yet : (first : Bool) (separator : List ℕ) → separator ≡ cond first [] (codes ",") → eqb (length separator) 0 ≡ first
+first_yet true separator e = rw e refl
+first_yet false separator e = rw e refl

@@ -1,7 +1,7 @@
 // Bytes and rows as they are written.
-ghost use Rattle.std.specs.Prelude.{◌≡◌, ◌<◌, [], ◌++◌, if◌then◌else◌, codes};
+ghost use Rattle.std.specs.Prelude.{◌≡◌, ◌<◌};
 ghost use Rattle.std.specs.Fmt.{WritesOnOk};
-ghost use Rattle.script.specs.Written.{byte_digits, digit_code as code_of, hex_of, term_text, row_text};
+ghost use Rattle.script.specs.Written.{byte_digits, digit_code as code_of, hex_of, row_text};
 
 use std::fmt;
 
@@ -43,33 +43,21 @@ pub fn bytes<W: fmt::Write>(values: &[u8], f: &mut fmt::Formatter<W>) -> fmt::Re
     Ok(())
 }
 
-// Writes a term, with a comma before it unless it is the first.
-fn term<W: fmt::Write>(
-    first: bool,
-    place: usize,
-    value: u16,
-    f: &mut fmt::Formatter<W>,
-) -> fmt::Result
-    ensures { WritesOnOk W.write_str_gives f.old result ((if first then [] else codes ",") ++ term_text place value) f.new }
-{
-    if first {
-        write!(f, "{place}:{value}")
-    } else {
-        write!(f, ",{place}:{value}")
-    }
-}
-
 // Writes a row as `PLACE:VALUE` for each place that is not zero, or `-` where all are.
 pub(crate) fn row<W: fmt::Write>(values: &[u16], f: &mut fmt::Formatter<W>) -> fmt::Result
     ensures { WritesOnOk W.write_str_gives f.old result (row_text values.now) f.new }
 {
-    let mut first = true;
+    let mut separator = "";
     for (place, value) in values.iter().enumerate() {
         if *value == 0 {
             continue;
         }
-        term(first, place, *value, f)?;
-        first = false;
+        write!(f, "{separator}{place}:{value}")?;
+        separator = ",";
     }
-    if first { write!(f, "-") } else { Ok(()) }
+    if separator.is_empty() {
+        write!(f, "-")
+    } else {
+        Ok(())
+    }
 }
