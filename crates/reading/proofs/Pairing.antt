@@ -1,5 +1,5 @@
 -- Bytes read pair by pair.
-use Rattle.std.proofs.Common.{◌≡◌, ℕ, zero, suc, ◌*◌, List, [], ◌∷◌, length, get_or, Result, refl, ap, arith}
+use Rattle.std.proofs.Common.{◌≡◌, ℕ, zero, suc, ◌*◌, List, [], ◌∷◌, length, get_or, Result, refl, arith}
 use Rattle.std.specs.Simd.{first_chunks}
 use Rattle.reading.specs.declared.fault.Unread.{Unread}
 use Rattle.reading.specs.Hex.{byte_of, pairs}

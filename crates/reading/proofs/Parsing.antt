@@ -16,12 +16,16 @@ use Rattle.reading.specs.Numerals.{one_more, more_digits, digits_of, after_sign,
 use Rattle.reading.specs.Steps.{then}
 
 -- the answer is v where P holds, and else no number
-abbrev Reads : {T : Type 0} → Result T Unread → Type 0 → T → Type 0
+abbrev pub Reads : {T : Type 0} → Result T Unread → Type 0 → T → Type 0
 Reads r P v = MatchResult r (λ x. P × (x ≡ v)) (λ e. ¬ P × (e ≡ Number))
 
 reads_by : {T : Type 0} {P Q : Type 0} (r : Result T Unread) (v : T) → (P → Q) → (Q → P) → Reads r P v → Reads r Q v
 reads_by (Ok x) v to from h = (to h.0, h.1)
 reads_by (Err e) v to from h = (λ q. h.0 (from q), h.1)
+
+pub read_ok : {T : Type 0} {P : Type 0} (r : Result T Unread) (v : T) → Reads r P v → P → r ≡ Ok v
+read_ok (Ok x) v h p = ap Ok h.1
+read_ok (Err e) v h p = absurd (h.0 p)
 
 -- what is read is turned into something else
 reads_as : {S T : Type 0} (P : Type 0) (f : S → T) (r : Result S Unread) (v : S) → Reads r P v → Reads (then r (λ x. Ok (f x))) P (f v)
@@ -80,7 +84,7 @@ module _ (most : ℕ) where
       (λ w. rw w.1 (λ p. w.0 (p.0.0, omega (arith, after_above next text, p.1)), refl))
       (one_reads n code)
 
-  digits_read : (text : List ℕ) → Reads (digits_of most text) (AllDigits 10 text × (0 < length text) × (digits_value 10 text ≤ most)) (digits_value 10 text)
+  pub digits_read : (text : List ℕ) → Reads (digits_of most text) (AllDigits 10 text × (0 < length text) × (digits_value 10 text ≤ most)) (digits_value 10 text)
   digits_read [] = (λ p. absurd (omega arith), refl)
   digits_read (code ∷ text) =
       rw (ne_eqb (length (code ∷ text)) 0 (λ e. omega arith))
@@ -118,7 +122,7 @@ agrees gives text v means utf8 (Ok n) (Err d) h k = absurd (k.0 (means (Ok n) h)
 agrees gives text v means utf8 (Err e) (Ok x) h k = ⊎_elim (λ no. absurd (no (utf8 k.0))) (λ w. absurd (means (Err w.0) w.1 k.0)) h.1
 agrees gives text v means utf8 (Err e) (Err d) h k = ap Err (h.0 ∙ sym k.1)
 
-own : IsNumeralModel (AllDigits 10) (digits_value 10)
+pub own : IsNumeralModel (AllDigits 10) (digits_value 10)
 own = numerals_by_value (AllDigits 10) tells_digits
 
 -- what std gives for an unsigned number of k bits

@@ -1,11 +1,11 @@
 -- A number that is written is read as it was.
-use Rattle.std.proofs.Common.{◌≡◌, ℕ, ◌+◌, ◌*◌, ◌/◌, ◌%◌, ◌^◌, ◌<◌, ◌≤◌, List, [], ◌∷◌, ◌++◌, length, get_or, pos, None, Ok, Err, decimal, refl, ap, ◌∙◌, arith, ne_eqb}
-use Rattle.std.proofs.lemmas.Fmt.{decimal_is_IsNumeral, decimal_by_steps}
+use Rattle.std.proofs.Common.{◌≡◌, ℕ, ◌^◌, ◌<◌, ◌≤◌, pos, None, Ok, decimal, ap, ◌∙◌, arith}
+use Rattle.std.proofs.lemmas.Fmt.{decimal_is_IsNumeral, digits_value-decimal}
 use Rattle.std.proofs.lemmas.Str.Parse.{digit_at}
+use Rattle.std.specs.Str.Parse.{digits_value}
 use Rattle.reading.specs.Laws.{NumbersReturn}
-use Rattle.reading.specs.Numerals.{one_more, more_digits, digits_of, after_sign, unsigned_of, signed_of}
-use Rattle.reading.specs.Steps.{then}
-use Rattle.reading.proofs.Parsing.{sign_free}
+use Rattle.reading.specs.Numerals.{digits_of, after_sign, unsigned_of, signed_of}
+use Rattle.reading.proofs.Parsing.{own, read_ok, digits_read, sign_free}
 
 -- no sign stands before a number that is written
 no_sign : (sign n : ℕ) → sign < 48 → n < 2 ^ 64 → after_sign sign (decimal n) ≡ None
@@ -14,35 +14,11 @@ no_sign sign n low small =
     sign_free sign (decimal n) (λ e. omega (arith, (digit_at (decimal n) 0 reads.1 reads.0).0))
 
 module _ (most : ℕ) where
-  more_append : (n : ℕ) (xs ys : List ℕ) → more_digits most n (xs ++ ys) ≡ then (more_digits most n xs) (λ v. more_digits most v ys)
-  unfolding more_digits
-  more_append n [] ys = refl
-  more_append n (x ∷ xs) ys =
-      elim (one_more most n x) as (λ r. then r (λ v. more_digits most v (xs ++ ys)) ≡ then (then r (λ v. more_digits most v xs)) (λ v. more_digits most v ys))
-      [ Ok v ↦ more_append v xs ys | Err e ↦ refl ]
-
-  one_reads : (n d : ℕ) → d < 10 → n * 10 + d ≤ most → one_more most n (48 + d) ≡ Ok (n * 10 + d)
-  one_reads n d small fits = grind arith
-
-  last_reads : (n d : ℕ) → d < 10 → n * 10 + d ≤ most → more_digits most n ((48 + d) ∷ []) ≡ Ok (n * 10 + d)
-  unfolding more_digits
-  last_reads n d small fits = rw (one_reads n d small fits)
-
-  abbrev Reads : ℕ → List ℕ → Type 0
-  Reads n text = n ≤ most → more_digits most 0 text ≡ Ok n
-
-  first_digit : (n : ℕ) → n < 10 → Reads n ((48 + n) ∷ [])
-  first_digit n small fits = last_reads 0 n small (omega arith) ∙ ap Ok (omega arith)
-
-  next_digit : (n : ℕ) (text : List ℕ) → 10 ≤ n → Reads (n / 10) text → Reads n (text ++ ((48 + n % 10) ∷ []))
-  next_digit n text large reads fits =
-      let same : n / 10 * 10 + n % 10 ≡ n = omega arith in
-      rw (more_append 0 text ((48 + n % 10) ∷ []), reads (omega arith), last_reads (n / 10) (n % 10) (omega arith) (omega arith)) (ap Ok same)
-
   digits_return : (n : ℕ) → n < 2 ^ 64 → n ≤ most → digits_of most (decimal n) ≡ Ok n
   digits_return n small fits =
-      let some = (decimal_is_IsNumeral n small).0.0 in
-      rw (ne_eqb (length (decimal n)) 0 (λ e. omega arith)) (decimal_by_steps Reads first_digit next_digit n small fits)
+      let numeral = (decimal_is_IsNumeral n small).0 in
+      let value : digits_value 10 (decimal n) ≡ n = digits_value-decimal own n small in
+      read_ok (digits_of most (decimal n)) (digits_value 10 (decimal n)) (digits_read most (decimal n)) (numeral.1, numeral.0, omega arith) ∙ ap Ok value
 
   pub unsigned_return : (n : ℕ) → n < 2 ^ 64 → n ≤ most → unsigned_of most (decimal n) ≡ Ok n
   unsigned_return n small fits = rw (no_sign 43 n (omega arith) small) (digits_return n small fits)

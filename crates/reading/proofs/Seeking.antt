@@ -1,6 +1,7 @@
 -- The first part that is not empty, and what is left after it.
 use Rattle.std.proofs.Common.{◌≡◌, ℕ, ◌<◌, Bool, true, false, List, [], ◌∷◌, length, Option, Some, None, refl, ap, ◌∙◌, arith}
 use denote.Param.Members.{Mut}
+use Rattle.std.proofs.lemmas.List.{nil_from_length}
 use Rattle.std.specs.Borrow.{Bor}
 use Rattle.std.specs.Fn.{CalledAt}
 use Rattle.std.specs.Iterator.{Yields, YieldsFirstBy, FindsItem}
@@ -13,10 +14,6 @@ use Rattle.reading.specs.Lines.{filled}
 abbrev Steps : Pieces → Option (Bor (List ℕ)) → Pieces → Type 0
 Steps = YieldsFirstBy (λ x. x.now) pieces_left
 
-bare : (part : List ℕ) → length part ≡ 0 → part ≡ []
-bare [] none = refl
-bare (byte ∷ part) none = absurd (omega arith)
-
 module _ {F : Type 0} (g : Mut F (Bor (Bor (List ℕ)) × Unit {0}) Bool) where
   -- the parts that were passed over are no words
   passed : ((f : F) (x : Bor (List ℕ)) (q : F) → CalledAt g f x false q → length x.now ≡ 0)
@@ -24,7 +21,7 @@ module _ {F : Type 0} (g : Mut F (Bor (Bor (List ℕ)) × Unit {0}) Bool) where
       → filled (pieces_left s) ≡ filled (pieces_left t)
   passed empty s t [] f j y e = ap (λ u. filled (pieces_left u)) y
   passed empty s t (x ∷ xs) f j y e =
-      let none : x.now ≡ [] = bare x.now (empty f x e.0 e.1) in
+      let none : x.now ≡ [] = nil_from_length x.now (empty f x e.0 e.1) in
       let step : pieces_left s ≡ [] ∷ pieces_left y.0 = y.1 ∙ ap (λ part. part ∷ pieces_left y.0) none in
       ap filled step ∙ passed empty y.0 t xs e.0 j y.2 e.2
 

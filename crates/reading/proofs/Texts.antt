@@ -1,7 +1,7 @@
 -- The words of a text are texts.
-use Rattle.std.proofs.Common.{◌≡◌, ℕ, suc, ◌<◌, ◌≤◌, Bool, true, false, List, [], ◌∷◌, ◌++◌, length, get_or, sym, refl, ap, ◌∙◌, subst, arith, append-nil, ◌⊎◌, inl, inr, ⊎_elim}
+use Rattle.std.proofs.Common.{◌≡◌, ℕ, suc, ◌<◌, ◌≤◌, Bool, true, false, List, [], ◌∷◌, ◌++◌, length, get_or, sym, refl, ap, ◌∙◌, subst, arith, append-nil, ⊎_elim}
 use Rattle.std.proofs.Math.Utf8.{encode, encodes, scalar, scalars}
-use Rattle.std.proofs.lemmas.Bool.{and_parts, cases_order}
+use Rattle.std.proofs.lemmas.Bool.{and_parts, cases_lt}
 use Rattle.std.proofs.lemmas.Bool.Decides.{nat_tests}
 use Rattle.std.proofs.lemmas.List.Elements.{All-nil, All-cons}
 use Rattle.std.proofs.lemmas.Str.{IsUtf8-nil, IsUtf8-append, IsUtf8-encode, encode_ascii, inside_one}
@@ -44,10 +44,6 @@ fronted_text : (bytes : List ℕ) (parts : List (List ℕ)) → IsUtf8 bytes →
 fronted_text bytes [] b t = tt
 fronted_text bytes (part ∷ parts) b t = (IsUtf8-append bytes part b t.0, t.1)
 
--- below or not
-which : (a b : ℕ) → (a < b) ⊎ (b ≤ a)
-which a b = ⊎_elim (λ e. inr (omega arith)) (λ o. ⊎_elim (λ l. inl l) (λ g. inr (omega arith)) o) (cases_order a b)
-
 white_low : (byte : ℕ) → 128 ≤ byte → white byte ≡ false
 white_low byte high = grind (arith, nat_tests)
 
@@ -56,7 +52,7 @@ whole_char : (c : ℕ) → 128 ≤ c → Whole white (encode c) (length (encode 
 whole_char c high k less = ⊎_elim
     (λ low. let same : c ≡ get_or (encode c) k 0 = inside_one c [] (encode c) k (sym (append-nil (encode c))) less low in absurd (omega arith))
     (λ above. white_low (get_or (encode c) k 0) above)
-    (which (get_or (encode c) k 0) 128)
+    (cases_lt (get_or (encode c) k 0) 128)
 
 -- one byte that is a character by itself
 low_char : (c : ℕ) (rest : List ℕ) (b : Bool) → white c ≡ b → IsUtf8 (c ∷ []) → Texts (parts_of white rest) → Texts (parts_of white (c ∷ rest))
@@ -72,7 +68,7 @@ one_char c rest scalar t = ⊎_elim
     let P : List ℕ → Type 0 = λ bytes. Texts (parts_of white (bytes ++ rest)) in
     subst P (sym e) (low_char c rest (white c) refl (subst IsUtf8 e (IsUtf8-encode c scalar)) t))
     (λ high. subst Texts (sym (parts_front white (encode c) rest (whole_char c high))) (fronted_text (encode c) (parts_of white rest) (IsUtf8-encode c scalar) t))
-    (which c 128)
+    (cases_lt c 128)
 
 text_parts : (cs : List ℕ) → scalars cs ≡ true → Texts (parts_of white (encodes cs))
 unfolding parts_of

@@ -28,8 +28,7 @@ pub fn digits(byte: u8) -> [u8; 2]
 fn byte<W: fmt::Write>(value: u8, f: &mut fmt::Formatter<W>) -> fmt::Result
     ensures { WritesOnOk W.write_str_gives f.old result (byte_digits value) f.new }
 {
-    let high = digit_code(value / 16) as char;
-    let low = digit_code(value % 16) as char;
+    let [high, low] = digits(value).map(|digit| digit as char);
     write!(f, "{high}{low}")
 }
 

@@ -1,4 +1,4 @@
-use Rattle.std.proofs.Common.{◌≡◌, ℕ, ◌+◌, ◌*◌, ◌/◌, [], length, drop, vec_items, sym, inr, append-nil, arith, eqb-true}
+use Rattle.std.proofs.Common.{◌≡◌, ◌+◌, ◌/◌, [], length, drop, vec_items, sym, inr, append-nil, arith, eqb-true}
 use Rattle.reading.specs.Rows.{each}
 use Rattle.reading.proofs.Narrowing.{each_more, each_stops, each-done}
 use Rattle.reading.proofs.Pairing.{byte_by, pairs_by_twos}

@@ -3,7 +3,6 @@ use Rattle.std.proofs.lemmas.Slice.{between_to_end}
 use borrow.Author.Tests.{tests}
 use Rattle.std.proofs.lemmas.Iterator.{YieldsList-from_slice}
 use Rattle.std.proofs.lemmas.Iterator.Search.{position_from_yields_List}
-use Rattle.std.specs.Option.{option_map}
 use Rattle.reading.specs.Cuts.{cuts}
 use Rattle.reading.proofs.Cutting.{split_first}
 use Rattle.reading.proofs.pieces.split_once.Goals as goal

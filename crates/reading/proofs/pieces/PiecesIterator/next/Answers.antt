@@ -1,4 +1,4 @@
-use Rattle.std.proofs.Common.{◌≡◌, [], ◌∷◌, length, sym, ap, arith, rules}
+use Rattle.std.proofs.Common.{◌≡◌, [], ◌∷◌, length, sym, ap, arith}
 use Rattle.reading.specs.Cuts.{cuts, pieces_left, parts_of}
 use Rattle.reading.proofs.Cutting.{parts_split}
 use Rattle.reading.proofs.pieces.PiecesIterator.next.Goals as goal
