@@ -40,6 +40,7 @@ pub fn read(heap: Global, word: &[u8]) -> Result<Vec<u8>, Fault>
     if !rest.is_empty() {
         return Err(Fault::Unread(Unread::Hex));
     }
+    // A loop, since the contract of `try_collect` does not say at which item it fails.
     for [high, low] in pairs {
         out.push(byte(*high, *low)?)?;
     }

@@ -33,7 +33,8 @@ pub(crate) fn split_once(text: &[u8], separator: Separator) -> Option<(&[u8], &[
     Some((&text[..i], &text[i + 1..]))
 }
 
-// The parts of a text one after another; a text without a separator is one part.
+// The parts of a text one after another; a text without a separator is one part. Not std's `split`,
+// whose type has that of a closure in it, which the field of `Words` cannot name.
 #[derive(Drop)]
 pub(crate) struct Pieces<'a> {
     rest: Option<&'a [u8]>,

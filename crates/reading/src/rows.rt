@@ -96,6 +96,7 @@ fn narrowed<C: Coefficient + Drop>(heap: Global, row: &[i32]) -> Result<Vec<C>, 
     ensures { Spared (seen vec_items result) (faulty (each C.reads row.now)) }
 {
     let mut out = Vec::new(heap);
+    // A loop, since the contract of `try_collect` does not say at which item it fails.
     for value in row {
         out.push(C::of(*value)?)?;
     }

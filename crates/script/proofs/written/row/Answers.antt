@@ -12,20 +12,30 @@ loop-place-init g c = (([], (refl, refl)), (true, refl, ([], refl, λ plain. sea
 
 pub loop-place-preserved-then-value-eq0 : goal.loop-place-preserved-then-value-eq0
 loop-place-preserved-then-value-eq0 g c =
-    let was = c.loop-place.invariant.1 in
-    (c.loop-place.invariant.0, (was.0, was.1,
-    written_same g.W.Write.write_str_gives _ _ _ _ _ was.2
-    (listed_skip was.0 c.args.values.now c.loop-place.place-counter c.loop-place-test.true c.if-value-eq0.true)))
+    let was = c.loop-place.invariant.1 in (
+      c.loop-place.invariant.0,
+      (
+        was.0,
+        was.1,
+        written_same g.W.Write.write_str_gives _ _ _ _ _ was.2
+            (listed_skip was.0 c.args.values.now c.loop-place.place-counter c.loop-place-test.true c.if-value-eq0.true),
+      ),
+    )
 
 pub loop-place-preserved : goal.loop-place-preserved
 loop-place-preserved g c =
     let was = c.loop-place.invariant.1 in
     let place = c.loop-place.place-counter in
-    let term = term_text place (get_or c.args.values.now place 0) in
-    (IsUtf8-from_ascii (codes ",") (IsAscii-cons 44 [] (lit< tt) IsAscii-nil), (false, refl,
-    written-more g.W.Write.write_str_gives _ _ _ _ _ _ _ was.2
-    (listed_more was.0 c.args.values.now place c.loop-place-test.true c.if-value-eq0.false)
-    (λ plain. has_written_of_eq g.W.Write.write_str_gives _ _ _ _ (ap (λ s. s ++ term) was.1) (c.in_ok-write.ensures.writes plain refl))))
+    let term = term_text place (get_or c.args.values.now place 0) in (
+      IsUtf8-from_ascii (codes ",") (IsAscii-cons 44 [] (lit< tt) IsAscii-nil),
+      (
+        false,
+        refl,
+        written-more g.W.Write.write_str_gives _ _ _ _ _ _ _ was.2
+            (listed_more was.0 c.args.values.now place c.loop-place-test.true c.if-value-eq0.false)
+            (λ plain. has_written_of_eq g.W.Write.write_str_gives _ _ _ _ (ap (λ s. s ++ term) was.1) (c.in_ok-write.ensures.writes plain refl)),
+      ),
+    )
 
 pub returns-then-is_empty : goal.returns-then-is_empty
 returns-then-is_empty g c plain ok =

@@ -1,4 +1,4 @@
-use Rattle.std.proofs.Common.{◌≡◌, codes, sym, ap, rules, arith}
+use Rattle.std.proofs.Common.{codes, sym, ap, rules, arith}
 use Rattle.std.proofs.lemmas.Slice.Eq.{text_from_reads}
 use Rattle.script.specs.Names.{task_name}
 use Rattle.script.proofs.names.TaskName.of.Goals as goal
