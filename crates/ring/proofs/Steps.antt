@@ -102,6 +102,12 @@ module _ {C : Type 0} (R : CommRing C) where
       ap (λ w. set w i z) so_far
       ∙ mixed-set i (zeros R n) old z (omega (arith, length-replicate n R.zero)) (z-is ∙ sym (get_or-replicate n i R.zero z within))
 
+  -- Horner's rule starts from zeros
+  pub horner_starts : (a b out : List C) (n : ℕ) → length out ≡ n → out ≡ zeros R n → out ≡ product R (length out) (drop (length a - 0) a) b
+  unfolding product
+  horner_starts a b out n l zero-is =
+      zero-is ∙ ap (zeros R) (sym l) ∙ ap (λ p. product R (length out) p b) (sym (drop_of_length-le a {i = length a - 0} (omega arith)))
+
   -- Horner's step
   pub horner_made : (n : ℕ) (a b out after next : List C) (i : ℕ) (x : C) → 0 < n → length out ≡ n → 0 < i → i ≤ length a
       → length b ≡ n → out ≡ product R n (drop i a) b → after ≡ turned R out → x ≡ get_or a (i - 1) x → next ≡ add_into R after x b

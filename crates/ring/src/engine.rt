@@ -35,12 +35,7 @@ pub trait RingEngine {
 pub fn below(m: u16, row: &[u16]) -> bool
     ensures { result ≡ all_below m row.now }
 {
-    for x in row {
-        if *x >= m {
-            return false;
-        }
-    }
-    true
+    row.iter().all(|x| *x < m)
 }
 
 // The answer of an engine of degree n and modulus m to two operands and a buffer of some places.

@@ -16,9 +16,9 @@ fn power(x: Mod3457) -> Mod3457
     ensures { result.value ≡ climb x.value 1 exponent }
 {
     let mut power = Mod3457::of(1);
-    for i in 0..EXPONENT.len() {
+    for set in EXPONENT {
         power = power.times(power);
-        if EXPONENT[i] {
+        if set {
             power = power.times(x);
         }
     }
@@ -29,7 +29,7 @@ fn power(x: Mod3457) -> Mod3457
 pub fn inverse(x: Mod3457) -> Option<Mod3457>
     ensures { MatchOption result (x ≡ (residue_ring 3456).zero) (λ y. (residue_ring 3456).mul x y ≡ (residue_ring 3456).one) }
 {
-    if x.value == 0 {
+    if x == Mod3457::of(0) {
         return None;
     }
     Some(power(x))

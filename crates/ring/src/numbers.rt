@@ -9,8 +9,9 @@ pub fn load<const LAST: u16>(source: &[u16], target: &mut [Residue<LAST>])
     requires { length source.now ≡ length target.old }
     ensures { target.new ≡ residues_of LAST source.now }
 {
-    for i in 0..source.len() {
-        target[i] = Residue::of(source[i] as u32);
+    // A proof learns nothing of what a `zip` over `iter_mut` writes, so each place is written by its index, here and below.
+    for (i, number) in source.iter().enumerate() {
+        target[i] = Residue::of(*number as u32);
     }
 }
 
@@ -19,7 +20,7 @@ pub fn store<const LAST: u16>(source: &[Residue<LAST>], target: &mut [u16])
     requires { length source.now ≡ length target.old }
     ensures { target.new ≡ numbers_of source.now }
 {
-    for i in 0..source.len() {
-        target[i] = source[i].value;
+    for (i, residue) in source.iter().enumerate() {
+        target[i] = residue.value;
     }
 }

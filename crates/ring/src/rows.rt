@@ -22,8 +22,8 @@ pub fn turn<C: Coefficient>(row: &mut [C])
 pub fn add_multiple<C: Coefficient>(target: &mut [C], k: C, row: &[C])
     ensures { target.new ≡ add_into C.ring target.old k row.now }
 {
-    let common = target.len().min(row.len());
-    for i in 0..common {
-        target[i] = target[i].plus(k.times(row[i]));
+    // A proof learns nothing of what a `zip` over `iter_mut` writes, so each place is written by its index.
+    for (i, x) in row.iter().enumerate().take(target.len()) {
+        target[i] = target[i].plus(k.times(*x));
     }
 }

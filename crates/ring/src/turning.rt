@@ -1,6 +1,7 @@
 // The bench's own engine: it multiplies by turns and by adding multiples of a row.
 ghost use Rattle.std.specs.Prelude.{◌≡◌, ◌<◌, ◌≤◌, true, length, is_some, IfSome};
 ghost use Rattle.ring.specs.Engines.{known, lawful, product_to, Degree};
+ghost use Rattle.ring.specs.Residues.{residue_ring};
 ghost use Rattle.ring.specs.Rows.{product};
 
 use crate::coefficient::Coefficient;
@@ -24,7 +25,7 @@ impl Turning {
         ensures made { is_some result ≡ lawful degree modulus }
         ensures told { IfSome result (λ e. (e.degree ≡ degree) × (e.modulus ≡ modulus)) }
     {
-        if degree % 16 != 0 || degree < 16 || degree > 4096 {
+        if degree % 16 != 0 || !(16..=4096).contains(&degree) {
             return None;
         }
         if modulus != 3457 && modulus != 2048 {
@@ -35,36 +36,15 @@ impl Turning {
 }
 
 // The product of two rows by Horner's rule, from the top coefficient of a down.
-fn horner<C: Coefficient>(a: &[C], b: &[C], out: &mut [C])
-    requires { (0 < length out.old) × ((length a.now ≡ length out.old) × (length b.now ≡ length out.old)) }
-    ensures { out.new ≡ product C.ring (length out.old) a.now b.now }
+fn horner<const LAST: u16>(a: &[Residue<LAST>], b: &[Residue<LAST>], out: &mut [Residue<LAST>])
+    requires { (length a.now ≡ length out.old) × (length b.now ≡ length out.old) × (0 < length out.old) }
+    ensures { out.new ≡ product (residue_ring LAST) (length out.old) a.now b.now }
 {
-    for place in out.iter_mut() {
-        *place = C::zero();
-    }
-    for i in (0..a.len()).rev() {
+    out.fill(Residue::zero());
+    for k in a.iter().rev() {
         rows::turn(out);
-        rows::add_multiple(out, a[i], b);
+        rows::add_multiple(out, *k, b);
     }
-}
-
-// The product modulo LAST + 1, with three rows to work in.
-fn product_over<const LAST: u16>(
-    a: &[u16],
-    b: &[u16],
-    left: &mut [Residue<LAST>],
-    right: &mut [Residue<LAST>],
-    res: &mut [Residue<LAST>],
-    out: &mut [u16],
-)
-    requires lengths { (length a.now ≡ length out.old) × (length b.now ≡ length out.old) × (0 < length out.old) }
-    requires rooms { (length left.old ≡ length out.old) × (length right.old ≡ length out.old) × (length res.old ≡ length out.old) }
-    ensures { out.new ≡ product_to LAST (length out.old) a.now b.now }
-{
-    load(a, left);
-    load(b, right);
-    horner(left, right, res);
-    store(res, out);
 }
 
 // The product modulo LAST + 1, worked out in rows of its own.
@@ -73,17 +53,13 @@ fn product_into<const LAST: u16>(a: &[u16], b: &[u16], out: &mut [u16])
     ensures { out.new ≡ product_to LAST (length out.old) a.now b.now }
 {
     let n = out.len();
-    let mut left = [Residue::<LAST>::of(0); MAX_DEGREE];
-    let mut right = [Residue::<LAST>::of(0); MAX_DEGREE];
-    let mut result = [Residue::<LAST>::of(0); MAX_DEGREE];
-    product_over(
-        a,
-        b,
-        &mut left[0..n],
-        &mut right[0..n],
-        &mut result[0..n],
-        out,
-    );
+    let mut left = [Residue::<LAST>::zero(); MAX_DEGREE];
+    let mut right = [Residue::<LAST>::zero(); MAX_DEGREE];
+    let mut result = [Residue::<LAST>::zero(); MAX_DEGREE];
+    load(a, &mut left[..n]);
+    load(b, &mut right[..n]);
+    horner(&left[..n], &right[..n], &mut result[..n]);
+    store(&result[..n], out);
 }
 
 impl RingEngine for Turning {
