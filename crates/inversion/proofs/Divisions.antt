@@ -71,25 +71,25 @@ module _ {C : Type 0} (R : CommRing C) where
       let k = factor R a c q s in
       length-along (add_shifted R a k s b) (add_shifted R u k s v) b v c q s ∙ length_shifted u k s v
 
-  -- the loop of the division: place i - 1 is cleared, with the factor k of the coefficient x that stands there
-  module _ (a b : List C) (c : C) (q i : ℕ) (x k : C) (above : q < i) (within : i ≤ length a) (x-is : x ≡ get_or a (i - 1) x) (k-is : k ≡ R.neg (R.mul x c)) where
-    k-factor : k ≡ factor R a c q (i - 1 - q)
+  -- the loop of the division: place i is cleared, with the factor k of the coefficient x that stands there
+  module _ (a b : List C) (c : C) (q i : ℕ) (x k : C) (above : q ≤ i) (within : i < length a) (x-is : x ≡ get_or a i x) (k-is : k ≡ R.neg (R.mul x c)) where
+    k-factor : k ≡ factor R a c q (i - q)
     k-factor =
-        let e : i - 1 ≡ q + (i - 1 - q) = omega arith in
-        k-is ∙ ap (λ w. R.neg (R.mul w c)) (x-is ∙ get_or_default a (i - 1) x R.zero (omega arith) ∙ ap (at R a) e)
+        let e : i ≡ q + (i - q) = omega arith in
+        k-is ∙ ap (λ w. R.neg (R.mul w c)) (x-is ∙ get_or_default a i x R.zero within ∙ ap (at R a) e)
 
-    pub divided_step : (after : List C) → after ≡ add_shifted R a k (i - 1 - q) b → divided R after b c q (i - 1 - q) ≡ divided R a b c q (i - q)
+    pub divided_step : (after : List C) → after ≡ add_shifted R a k (i - q) b → divided R after b c q (i - q) ≡ divided R a b c q (suc i - q)
     unfolding divided
     divided_step after after_is =
-        let m : suc (i - 1 - q) ≡ i - q = omega arith in
-        ap (λ w. divided R w b c q (i - 1 - q)) (after_is ∙ ap (λ y. add_shifted R a y (i - 1 - q) b) k-factor) ∙ ap (divided R a b c q) m
+        let m : suc (i - q) ≡ suc i - q = omega arith in
+        ap (λ w. divided R w b c q (i - q)) (after_is ∙ ap (λ y. add_shifted R a y (i - q) b) k-factor) ∙ ap (divided R a b c q) m
 
-    pub along_step : (u v after beside : List C) → after ≡ add_shifted R a k (i - 1 - q) b → beside ≡ add_shifted R u k (i - 1 - q) v
-        → along R after beside b v c q (i - 1 - q) ≡ along R a u b v c q (i - q)
+    pub along_step : (u v after beside : List C) → after ≡ add_shifted R a k (i - q) b → beside ≡ add_shifted R u k (i - q) v
+        → along R after beside b v c q (i - q) ≡ along R a u b v c q (suc i - q)
     unfolding along
     along_step u v after beside after_is beside-is =
-        let s = i - 1 - q in
-        let m : suc (i - 1 - q) ≡ i - q = omega arith in
+        let s = i - q in
+        let m : suc (i - q) ≡ suc i - q = omega arith in
         ap₂ (λ w y. along R w y b v c q s) (after_is ∙ ap (λ y. add_shifted R a y s b) k-factor) (beside-is ∙ ap (λ y. add_shifted R u y s v) k-factor)
         ∙ ap (along R a u b v c q) m
 

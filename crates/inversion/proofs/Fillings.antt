@@ -1,18 +1,11 @@
--- How the working rows are filled, exchanged and added to, step by step.
-use Rattle.std.proofs.Common.{◌≡◌, ℕ, zero, suc, ◌+◌, ◌-◌, ◌/◌, ◌<◌, ◌≤◌, List, [], ◌∷◌, ◌++◌, length, get_or, take, drop, set, sym, refl, ap, ◌∙◌, ap₂, append-nil, arith, length-drop, length-set, drop_of_length-le, take_all}
+-- How the working rows are filled and added to, step by step.
+use Rattle.std.proofs.Common.{◌≡◌, ℕ, zero, suc, ◌+◌, ◌-◌, ◌/◌, ◌<◌, ◌≤◌, List, [], ◌∷◌, ◌++◌, length, get_or, take, drop, set, sym, refl, ap, ◌∙◌, ap₂, append-nil, arith, length-drop, length-set, drop_of_length-le, drop-cons, take_all}
 use lib.Seq.{set-append_left, set-append_seam}
 use Rattle.std.proofs.lemmas.List.{get_or_default, get_or_append_left}
 use Rattle.ring.specs.Ring.{CommRing}
 use Rattle.ring.specs.Rows.{add_into, zeros, bump, unit, modulus_row}
 use Rattle.ring.proofs.Scalars as scalar
 use Rattle.ring.proofs.Products as p
-use Rattle.ring.proofs.Mixed.{mixed, mixed_read, mixed-set}
-
--- one place more of two rows is exchanged
-pub exchange_put : {C : Type 0} (i : ℕ) (new old a b : List C) (y : C) → i < length new → a ≡ mixed i new old → b ≡ mixed i old new → y ≡ get_or b i y
-    → set a i y ≡ mixed (i + 1) new old
-exchange_put i new old a b y l a-is b-is y-is =
-    ap (λ w. set w i y) a-is ∙ mixed-set i new old y l (y-is ∙ ap (λ w. get_or w i y) b-is ∙ mixed_read i old new y)
 
 module _ {C : Type 0} (R : CommRing C) where
   cons_eq : {x y : C} {xs ys : List C} → x ≡ y → xs ≡ ys → ◌≡◌ {A = List C} (x ∷ xs) (y ∷ ys)
@@ -50,17 +43,12 @@ module _ {C : Type 0} (R : CommRing C) where
       ∙ set-append_seam low R.zero [] R.one
       ∙ ap (λ w. set (unit R n) (n / 2) w ++ (R.one ∷ [])) (y-is ∙ ap (λ w. R.add w (R.neg R.one)) x-at)
 
-  add_none : (target : List C) (k : C) → add_into R target k [] ≡ target
-  unfolding add_into
-  add_none [] k = refl
-  add_none (x ∷ target) k = refl
-
-  -- a row with k zeros after it
-  pub padded : (f : List C) (m k : ℕ) → m ≡ length f + k → add_into R (zeros R m) R.one f ≡ f ++ zeros R k
-  unfolding add_into
-  padded [] m k e = add_none (zeros R m) R.one ∙ ap (zeros R) (omega arith)
-  padded (x ∷ f) zero k e = absurd (omega arith)
-  padded (x ∷ f) (suc m) k e = cons_eq (scalar.zero-add R _ ∙ scalar.one-mul R x) (padded f m k (omega arith))
+  -- a row with a zero after it
+  pub padded : (f row : List C) (z : C) → length row ≡ length f + 1 → z ≡ R.zero → set (f ++ drop (length f) row) (length f) z ≡ f ++ zeros R 1
+  padded f row z long z-is =
+      let e : drop (length f) row ≡ get_or row (length f) z ∷ [] =
+      drop-cons row (length f) z (omega arith) ∙ ap {B = List C} (λ w. get_or row (length f) z ∷ w) (drop_of_length-le row {i = suc (length f)} (omega arith)) in
+      ap (λ w. set (f ++ w) (length f) z) e ∙ set-append_seam f (get_or row (length f) z) [] z ∙ ap {B = List C} (λ w. f ++ (w ∷ [])) z-is
 
   -- a multiple added from place s on
   pub added_from : (s : ℕ) (target : List C) (k : C) (row : List C) → take s target ++ add_into R (drop s target) k row ≡ add_into R target k (zeros R s ++ row)

@@ -1,7 +1,6 @@
 -- The leading place that is computed is the highest place that is not zero, and the only one.
-use Rattle.std.proofs.Common.{◌≡◌, ℕ, zero, suc, ◌-◌, ◌<◌, ◌≤◌, Bool, true, false, cond, eqb, List, [], ◌∷◌, length, Some, None, Option, refl, ap, ◌∙◌, subst, inl, inr, arith}
-use Rattle.std.proofs.lemmas.List.{get_or_past}
-use Rattle.std.proofs.lemmas.Bool.{eqb-true, eqb-false, cases_order, cases_eq}
+use Rattle.std.proofs.Common.{◌≡◌, ℕ, zero, suc, ◌<◌, ◌≤◌, Bool, true, false, cond, eqb, List, [], ◌∷◌, length, Some, None, Option, sym, refl, ap, subst, inl, inr, arith}
+use Rattle.std.proofs.lemmas.Bool.{eqb-true, eqb-false, cases_order}
 use Rattle.ring.specs.Residues.{residue_eq}
 use Rattle.inversion.specs.Places.{at, Below, Leads}
 use Rattle.inversion.specs.Leading.{F, field, raised, leading, Highest}
@@ -66,15 +65,7 @@ leading-some row p e = subst (λ (o : Option ℕ). Highest row o) e (leading_mea
 pub leading_none : (row : List F) → leading row ≡ None → Below field 0 row
 leading_none row e = subst (λ (o : Option ℕ). Highest row o) e (leading_means row)
 
--- past its end a row is zero
-pub below_end : (row : List F) → Below field (length row) row
-below_end row i h = get_or_past row i field.zero h
-
--- one place further down is zero too
-pub below_down : (row : List F) (i : ℕ) → 0 < i → Below field i row → at field row (i - 1) ≡ field.zero → Below field (i - 1) row
-below_down row i pos h e j g =
-    elim (cases_eq j (i - 1)) [ inl z ↦ ap (at field row) z ∙ e | inr d ↦ h j (omega (arith, d)) ]
-
--- or it leads
-pub leads_down : (row : List F) (i : ℕ) → 0 < i → Below field i row → (at field row (i - 1) ≡ field.zero → ⊥) → Leads field (i - 1) row
-leads_down row i pos h e = record { some = e; above = λ j g. h j (omega arith) }
+-- the highest place that is not zero is the leading place
+pub highest_leading : (row : List F) (o : Option ℕ) → Highest row o → o ≡ leading row
+highest_leading row None h = sym (none_leading row h)
+highest_leading row (Some p) h = sym (leads_leading row p h.1)

@@ -1,4 +1,5 @@
 pub mod Highest
+pub mod FromBack
 pub mod Zeros
 pub mod Divisions
 pub mod Units

@@ -13,9 +13,8 @@ use ring::rows;
 fn add_shifted<C: Coefficient>(target: &mut [C], k: C, shift: usize, row: &[C])
     ensures { target.new ≡ add_shifted C.ring target.old k shift row.now }
 {
-    let places = target.len();
-    if shift < places {
-        rows::add_multiple(&mut target[shift..places], k, row);
+    if shift < target.len() {
+        rows::add_multiple(&mut target[shift..], k, row);
     }
 }
 
@@ -34,7 +33,7 @@ fn reduce<C: Coefficient>(
     ensures row { upper.new ≡ divided C.ring upper.old lower.now scale place (suc top - place) }
     ensures beside { upper_cofactor.new ≡ along C.ring upper.old upper_cofactor.old lower.now lower_cofactor.now scale place (suc top - place) }
 {
-    for i in (place..top + 1).rev() {
+    for i in (place..=top).rev() {
         let k = upper[i].times(scale).minus();
         add_shifted(upper, k, i - place, lower);
         add_shifted(upper_cofactor, k, i - place, lower_cofactor);

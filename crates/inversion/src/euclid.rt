@@ -24,16 +24,11 @@ fn finish(last: &[Mod3457], cofactor: &[Mod3457], u: &mut [Mod3457]) -> Result<(
     ensures found { MatchResult result (λ _. (leading_place last.now ≡ Some 0) × (u.new ≡ add_into field (zeros field (length u.old)) (reciprocal (at field last.now 0)) cofactor.now)) (λ _. leading_place last.now ≢ Some 0) }
     ensures refuses { IfErr result (λ e. (e ≡ NoInverse) × (u.new ≡ u.old)) }
 {
-    let Some(place) = leading(last) else {
-        return Err(Refusal::NoInverse);
-    };
-    if place != 0 {
+    if leading(last) != Some(0) {
         return Err(Refusal::NoInverse);
     }
-    let Some(scale) = working::inverse_at(last, 0) else {
-        return Err(Refusal::NoInverse);
-    };
-    working::clear(u);
+    let scale = working::inverse_at(last, 0).ok_or(Refusal::NoInverse)?;
+    u.fill(Mod3457::zero());
     rows::add_multiple(u, scale, cofactor);
     Ok(())
 }
@@ -54,13 +49,13 @@ fn solve(
     ensures last { upper.new ≡ last_of (modulus_row field (length f.now)) (remainders (length f.now) f.now) }
 {
     working::set_modulus(upper, f.len());
-    working::clear(upper_cofactor);
+    upper_cofactor.fill(Mod3457::zero());
     working::set_padded(lower, f);
     working::set_one(lower_cofactor);
     while leading(lower).is_some() {
         divide(upper, upper_cofactor, lower, lower_cofactor);
-        working::exchange(upper, lower);
-        working::exchange(upper_cofactor, lower_cofactor);
+        upper.swap_with_slice(lower);
+        upper_cofactor.swap_with_slice(lower_cofactor);
     }
     finish(upper, upper_cofactor, u)
 }
@@ -79,16 +74,16 @@ pub fn invert(f: &[Mod3457], u: &mut [Mod3457]) -> Result<(), Refusal>
     if u.len() != n {
         return Err(Refusal::Length);
     }
-    let mut upper = [Mod3457::of(0); PLACES];
-    let mut upper_cofactor = [Mod3457::of(0); PLACES];
-    let mut lower = [Mod3457::of(0); PLACES];
-    let mut lower_cofactor = [Mod3457::of(0); PLACES];
+    let mut upper = [Mod3457::zero(); PLACES];
+    let mut upper_cofactor = [Mod3457::zero(); PLACES];
+    let mut lower = [Mod3457::zero(); PLACES];
+    let mut lower_cofactor = [Mod3457::zero(); PLACES];
     solve(
         f,
         u,
-        &mut upper[0..n + 1],
-        &mut upper_cofactor[0..n + 1],
-        &mut lower[0..n + 1],
-        &mut lower_cofactor[0..n + 1],
+        &mut upper[..n + 1],
+        &mut upper_cofactor[..n + 1],
+        &mut lower[..n + 1],
+        &mut lower_cofactor[..n + 1],
     )
 }

@@ -9,10 +9,5 @@ pub fn leading(row: &[Mod3457]) -> Option<usize>
     ensures is { result ≡ leading_place row.now }
     ensures means { Highest row.now result }
 {
-    for i in (0..row.len()).rev() {
-        if row[i].value != 0 {
-            return Some(i);
-        }
-    }
-    None
+    row.iter().rposition(|x| x.value != 0)
 }

@@ -1,6 +1,5 @@
 -- The steps of the code, over rows.
 use Rattle.std.proofs.Common.{◌≡◌, ℕ, zero, suc, ◌+◌, ◌-◌, ◌/◌, ◌<◌, ◌≤◌, min, List, [], ◌∷◌, ◌++◌, length, get_or, take, drop, set, sym, refl, ap, ◌∙◌, ap₂, arith, drop_of_length-le, drop-cons}
-use lib.ListN.{length-replicate, get_or-replicate}
 use Rattle.std.proofs.lemmas.List.{get_or_default}
 use Rattle.ring.specs.Ring.{CommRing}
 use Rattle.ring.specs.Rows.{plus, times, add_into, zeros, bump, top, turn, turned, product}
@@ -94,13 +93,6 @@ module _ {C : Type 0} (R : CommRing C) where
       let p-new : p ≡ get_or new i R.zero =
       p-is ∙ ap₂ R.add x_old (m-is ∙ ap (R.mul k) y-row) ∙ sym (slice_index_or-add_into old k row i here within) in
       ap (λ w. set w i p) so_far ∙ mixed-set i new old p (omega arith) (p-new ∙ get_or_default new i R.zero p (omega arith))
-
-  -- one place more is zero
-  pub zero_made : (n : ℕ) (old out : List C) (i : ℕ) (z : C) → length old ≡ n → i < n → out ≡ mixed i (zeros R n) old → z ≡ R.zero
-      → set out i z ≡ mixed (i + 1) (zeros R n) old
-  zero_made n old out i z l within so_far z-is =
-      ap (λ w. set w i z) so_far
-      ∙ mixed-set i (zeros R n) old z (omega (arith, length-replicate n R.zero)) (z-is ∙ sym (get_or-replicate n i R.zero z within))
 
   -- Horner's rule starts from zeros
   pub horner_starts : (a b out : List C) (n : ℕ) → length out ≡ n → out ≡ zeros R n → out ≡ product R (length out) (drop (length a - 0) a) b

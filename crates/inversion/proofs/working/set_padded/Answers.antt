@@ -1,10 +1,9 @@
-use Rattle.std.proofs.Common.{◌∙◌, ap₂}
-use Rattle.ring.specs.Rows.{add_into}
+use Rattle.std.proofs.Common.{length, drop, set, ◌++◌, ap, ◌∙◌}
+use Rattle.inversion.specs.Leading.{field}
 use Rattle.inversion.proofs.Fillings.{padded}
 use Rattle.inversion.proofs.working.set_padded.Goals as goal
 
 pub returns : goal.returns
-returns g c =
-    let R = g.C.Coefficient.ring in
-    c.add_multiple.ensures ∙ ap₂ (λ w k. add_into R w k c.args.f.now) c.clear.ensures c.one.ensures
-    ∙ padded R c.args.f.now _ 1 c.requires
+returns c =
+    let n = length c.args.f.now in
+    ap (λ w. set (w ++ drop n c.args.row.now) n c.zero.result) c.copy_from_slice.ensures.after ∙ padded field c.args.f.now c.args.row.now c.zero.result c.requires c.zero.ensures
