@@ -15,8 +15,8 @@ fn sum(a: u16, b: u16, width: Width) -> u16
 pub fn add(row: &mut [u16], other: &[u16], width: Width)
     ensures { row.new ≡ joined width.bits row.old other.now }
 {
-    let common = row.len().min(other.len());
-    for i in 0..common {
-        row[i] = sum(row[i], other[i], width);
+    // A proof learns nothing of what a `zip` over `iter_mut` writes, so each place is written by its index.
+    for (i, x) in other.iter().enumerate().take(row.len()) {
+        row[i] = sum(row[i], *x, width);
     }
 }

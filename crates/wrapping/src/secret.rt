@@ -18,12 +18,7 @@ fn small(x: i16) -> bool
 pub fn is_small(row: &[i16]) -> bool
     ensures { result ≡ all_small row.now }
 {
-    for x in row {
-        if !small(*x) {
-            return false;
-        }
-    }
-    true
+    row.iter().all(|x| small(*x))
 }
 
 // The residue of a number with sign modulo LAST + 1.
@@ -37,9 +32,9 @@ fn residue<const LAST: u16>(x: i32) -> u16
 pub fn reduce<const LAST: u16>(row: &[i16], out: &mut [u16])
     ensures { out.new ≡ over (reduced_row (LAST + 1) row.now) out.old }
 {
-    let common = out.len().min(row.len());
-    for i in 0..common {
-        out[i] = residue::<LAST>(row[i] as i32);
+    // A proof learns nothing of what a `zip` over `iter_mut` writes, so each place is written by its index.
+    for (i, &x) in row.iter().enumerate().take(out.len()) {
+        out[i] = residue::<LAST>(x as i32);
     }
 }
 
@@ -55,8 +50,7 @@ fn coefficient(i: usize, x: i16) -> i32
 pub fn reduce_secret<const LAST: u16>(f: &[i16], out: &mut [u16])
     ensures { out.new ≡ over (reduced_row (LAST + 1) (secret_of f.now)) out.old }
 {
-    let common = out.len().min(f.len());
-    for i in 0..common {
-        out[i] = residue::<LAST>(coefficient(i, f[i]));
+    for (i, &x) in f.iter().enumerate().take(out.len()) {
+        out[i] = residue::<LAST>(coefficient(i, x));
     }
 }

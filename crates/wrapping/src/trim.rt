@@ -16,8 +16,8 @@ fn halved(c: u16, width: Width) -> u16
 pub fn halve(row: &mut [u16], width: Width)
     ensures { row.new ≡ map (halved_of width.bits) row.old }
 {
-    for i in 0..row.len() {
-        row[i] = halved(row[i], width);
+    for c in row.iter_mut() {
+        *c = halved(*c, width);
     }
 }
 
@@ -25,8 +25,8 @@ pub fn halve(row: &mut [u16], width: Width)
 pub fn halvings(row: &[u16], out: &mut [u16])
     ensures { out.new ≡ over (map halving row.now) out.old }
 {
-    let common = out.len().min(row.len());
-    for i in 0..common {
-        out[i] = row[i] % 2;
+    // A proof learns nothing of what a `zip` over `iter_mut` writes, so each place is written by its index.
+    for (i, c) in row.iter().enumerate().take(out.len()) {
+        out[i] = *c % 2;
     }
 }

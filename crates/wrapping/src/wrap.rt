@@ -29,8 +29,8 @@ fn embedded(s: u16, bit: u8, width: Width) -> u16
 pub fn embed(sigma: &[u16], message: &[u8], width: Width, out: &mut [u16])
     ensures { out.new ≡ over (embedded_row (length sigma.now) width.bits sigma.now message.now) out.old }
 {
-    let common = out.len().min(sigma.len());
-    for i in 0..common {
-        out[i] = embedded(sigma[i], position(message, i), width);
+    // A proof learns nothing of what a `zip` over `iter_mut` writes, so each place is written by its index.
+    for (i, s) in sigma.iter().enumerate().take(out.len()) {
+        out[i] = embedded(*s, position(message, i), width);
     }
 }
