@@ -1,6 +1,6 @@
 -- The steps of the code, over rows.
 use Rattle.std.proofs.Common.{◌≡◌, ℕ, zero, suc, ◌+◌, ◌-◌, ◌/◌, ◌<◌, ◌≤◌, min, List, [], ◌∷◌, ◌++◌, length, get_or, take, drop, set, sym, refl, ap, ◌∙◌, ap₂, arith, drop_of_length-le, drop-cons}
-use Rattle.std.proofs.lemmas.List.{get_or_default}
+use Rattle.std.proofs.lemmas.List.{get_or_default, get_or-replicate, length-replicate}
 use Rattle.ring.specs.Ring.{CommRing}
 use Rattle.ring.specs.Rows.{plus, times, add_into, zeros, bump, top, turn, turned, product}
 use Rattle.ring.proofs.RowLaws as r
@@ -99,6 +99,13 @@ module _ {C : Type 0} (R : CommRing C) where
   unfolding product
   horner_starts a b out n l zero-is =
       zero-is ∙ ap (zeros R) (sym l) ∙ ap (λ p. product R (length out) p b) (sym (drop_of_length-le a {i = length a - 0} (omega arith)))
+
+  -- one place more is zero
+  pub zero_made : (n : ℕ) (old out : List C) (i : ℕ) (z : C) → length old ≡ n → i < n → out ≡ mixed i (zeros R n) old → z ≡ R.zero
+      → set out i z ≡ mixed (i + 1) (zeros R n) old
+  zero_made n old out i z l within so_far z-is =
+      ap (λ w. set w i z) so_far
+      ∙ mixed-set i (zeros R n) old z (omega (arith, length-replicate n R.zero)) (z-is ∙ sym (get_or-replicate n i R.zero z within))
 
   -- Horner's step
   pub horner_made : (n : ℕ) (a b out after next : List C) (i : ℕ) (x : C) → 0 < n → length out ≡ n → 0 < i → i ≤ length a

@@ -1,7 +1,6 @@
 // The bench's own engine: it multiplies by turns and by adding multiples of a row.
 ghost use Rattle.std.specs.Prelude.{◌≡◌, ◌<◌, ◌≤◌, true, length, is_some, IfSome};
 ghost use Rattle.ring.specs.Engines.{known, lawful, product_to, Degree};
-ghost use Rattle.ring.specs.Residues.{residue_ring};
 ghost use Rattle.ring.specs.Rows.{product};
 
 use crate::coefficient::Coefficient;
@@ -36,11 +35,14 @@ impl Turning {
 }
 
 // The product of two rows by Horner's rule, from the top coefficient of a down.
-fn horner<const LAST: u16>(a: &[Residue<LAST>], b: &[Residue<LAST>], out: &mut [Residue<LAST>])
+fn horner<C: Coefficient>(a: &[C], b: &[C], out: &mut [C])
     requires { (length a.now ≡ length out.old) × (length b.now ≡ length out.old) × (0 < length out.old) }
-    ensures { out.new ≡ product (residue_ring LAST) (length out.old) a.now b.now }
+    ensures { out.new ≡ product C.ring (length out.old) a.now b.now }
 {
-    out.fill(Residue::zero());
+    // A loop, since std's `fill` would have to know that a clone of a coefficient is that coefficient.
+    for place in out.iter_mut() {
+        *place = C::zero();
+    }
     for k in a.iter().rev() {
         rows::turn(out);
         rows::add_multiple(out, *k, b);
