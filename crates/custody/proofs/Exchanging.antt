@@ -1,5 +1,5 @@
 -- One exchange more of a list is carried out.
-use Rattle.std.proofs.Common.{◌≡◌, ℕ, ◌+◌, ◌<◌, List, [], ◌∷◌, ◌++◌, map, length, get_or, take, drop, set, Some, vec_items, Option, sym, refl, ap, ◌∙◌, ap₂, add-zero, arith, get_or-drop, drop-drop, drop-set-lt}
+use Rattle.std.proofs.Common.{◌≡◌, ℕ, ◌+◌, ◌<◌, List, [], ◌∷◌, ◌++◌, map, length, get_or, take, drop, set, Some, vec_items, sym, refl, ap, ◌∙◌, ap₂, add-zero, arith, get_or-drop, drop-drop, drop-set-lt}
 use mathlib.Core.List.{map-append, map-map}
 use lib.ListN.{get_or-map}
 use lib.Seq.{map-set, set-get_or}

@@ -1,5 +1,5 @@
 -- The first call of a list, as a station leaves it.
-use Rattle.std.proofs.Common.{◌≡◌, ℕ, ◌<◌, List, [], ◌∷◌, length, get_or, take, Some, None, vec_items, Option, unwrap_or, sym, refl, ap, ◌∙◌, subst, arith}
+use Rattle.std.proofs.Common.{◌≡◌, ℕ, ◌<◌, List, [], ◌∷◌, length, get_or, take, Some, None, vec_items, Option, unwrap_or, sym, refl, ap, subst, arith}
 use Rattle.places.specs.Replies.{Reply}
 use Rattle.custody.specs.declared.call.Answer.{Answer}
 use Rattle.custody.specs.declared.exchange.Exchange.{Exchange}
