@@ -5,7 +5,7 @@ ghost use Rattle.wrapping.specs.Secrets.{all_small};
 ghost use Rattle.keying.specs.KeyLaw.{Cut, KeyDegree, Ties};
 
 // A key of some degree: f' and g as handed in, and h with h·f = g modulo 3457, where f = 2 f' + 1.
-// Places past the degree are zero, and the unkeyed key has degree 0.
+// Places past the degree are zero, and the unkeyed key has degree 0. Arrays of the largest degree, since a station asks for no memory.
 #[derive(Clone, Copy)]
 pub struct Key {
     pub degree: usize,

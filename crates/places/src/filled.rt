@@ -6,7 +6,7 @@ ghost use Rattle.code.specs.Widths.{radius};
 use code::width::Width;
 
 // A wrapped message: coefficients below 2^width, of which the first n count,
-// and the allowance, a bound on the length of its noise in each octet.
+// and the allowance, a bound on the length of its noise in each octet. An array, since a station asks for no memory.
 #[derive(Clone, Copy)]
 pub struct Filled {
     pub width: Width,

@@ -24,7 +24,7 @@ impl Words<'_> {
         Ok(numbers::number(word)?)
     }
 
-    // A width in bits.
+    // A width in bits. Not one function with `number`: each has the definition of its own kind.
     pub fn width(&mut self) -> Result<u32, Fault>
         ensures answers { leaving (λ n. n) self.new result ≡ argument width_of (words_left self.old) }
         ensures leaves { words_left self.new ≡ others (words_left self.old) }

@@ -10,7 +10,7 @@ use crate::refusal::Refusal;
 use crate::residue::Residue;
 use crate::{engine, rows};
 
-// An engine of a lawful degree, for either modulus.
+// An engine of a lawful degree, for either modulus: a number and no type, since a script names it.
 #[derive(Drop)]
 pub struct Turning {
     degree: usize,

@@ -7,6 +7,7 @@ use reading::fault::Unread;
 use ring::refusal::Refusal;
 use std::fmt;
 
+// No Result: what is answered and what stands in place of an answer are printed alike, each as one line.
 #[derive(Drop)]
 pub enum Answer {
     Done,

@@ -43,7 +43,8 @@ impl Session {
         self.degree
     }
 
-    // Carries out a command; where memory is wanting, all is as it was. A station keeps its promise throughout.
+    // Carries out a command; where memory is wanting, all is as it was. A station keeps its promise throughout:
+    // a clause and no ghost field, since the promise holds what was asked so far, and a ghost field holds no data.
     pub fn carry_out(&mut self, heap: Global, command: Command) -> Result<Answer, AllocError>
         ensures carried { MatchResult result (λ answer. Carried (at_hand self.old) command (said answer) (at_hand self.new)) (λ _. at_hand self.new ≡ at_hand self.old) }
         ensures promised { Promised (at_hand self.old) → Promised (at_hand self.new) }
