@@ -18,7 +18,8 @@ struct Found {
 
 // The nearest of the words 0 to 7. These have equal bits in each pair of positions, so four pairs of costs tell all eight distances.
 fn best_even(octet: [i32; 8], width: Width) -> Found
-    ensures { Best (distance width.bits octet) 8 result.number.value result.distance }
+    ensures best { Best (distance width.bits octet) 8 result.number.value result.distance }
+    ensures small { result.distance ≤ 8388608 }
 {
     let a = pair_costs(octet, 0, width);
     let b = pair_costs(octet, 2, width);

@@ -17,7 +17,7 @@ pub fn table_rule() -> [u8; 16]
     WORDS
 }
 
-// The word of a number, 0 or 1 at each position.
+// The word of a number, 0 or 1 at each position: numbers and no bools, since the radius is multiplied by them.
 pub fn word(number: Nibble) -> [u8; 8]
     ensures { result ≡ word_of number.value }
 {

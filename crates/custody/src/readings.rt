@@ -46,7 +46,8 @@ impl<P: RingEngine, Q: RingEngine> Station<P, Q> {
             &key.f,
             filled.width,
             out,
-        )
+        );
+        Ok(())
     }
 
     // Writes the coefficients of a place in as many bits each as its width: 5, 6, 8, 2.

@@ -40,7 +40,7 @@ impl<P: RingEngine, Q: RingEngine> Draft<P, Q> {
         self.check(f, g)?;
         let mut u = [0; 1024];
         inverse_of(f, &mut u)?;
-        let h = small::times(&mut self.engines.field, f.len(), &u, g)?;
+        let h = small::times(&mut self.engines.field, f.len(), &u, g);
         self.key = Key::made(f, g, h);
         Ok(())
     }

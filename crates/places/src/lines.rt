@@ -45,11 +45,11 @@ pub fn deposited<P: RingEngine, Q: RingEngine>(
     ensures answers { lined key.now.degree result ≡ quiet_of (deposited_of key.now width.bits noise.now message.now) }
 {
     let n = key.degree;
-    let sigma = noise::sigma(&mut engines.field, n, &key.h, noise)?;
+    let sigma = noise::sigma(&mut engines.field, n, &key.h, noise);
     let mut coefficients = [0u16; 1024];
     wrap::embed(&sigma, message, width, &mut coefficients);
     let binary = &mut engines.binary;
-    let distance = secret::distance(binary, n, &coefficients, &key.f, message, width)?;
+    let distance = secret::distance(binary, n, &coefficients, &key.f, message, width);
     quiet(width, coefficients, root_up(distance) as u64)
 }
 
@@ -79,7 +79,7 @@ pub fn shortened<Q: RingEngine>(
     let n = key.degree;
     let mut halvings = [0u16; 1024];
     trim::halvings(&filled.coefficients, &mut halvings);
-    let distance = secret::distance(binary, n, &halvings, &key.f, &[], filled.width)?;
+    let distance = secret::distance(binary, n, &halvings, &key.f, &[], filled.width);
     let loss = root_up(distance);
     let mut coefficients = filled.coefficients;
     trim::halve(&mut coefficients, filled.width);

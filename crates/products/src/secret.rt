@@ -1,5 +1,5 @@
 // The product that a wrapping is opened and measured by: coefficients times f = 2 f' + 1, modulo 2048.
-ghost use Rattle.std.specs.Prelude.{◌≡◌, ◌/◌, ◌<◌, ◌≤◌, true, length, take, is_ok, IfOk, Ok};
+ghost use Rattle.std.specs.Prelude.{◌≡◌, ◌/◌, ◌<◌, true, length, take};
 ghost use Rattle.code.specs.Rows.{decoded, farthest};
 ghost use Rattle.ring.specs.Engines.{all_below};
 ghost use Rattle.wrapping.specs.Secrets.{reduced_row};
@@ -10,7 +10,6 @@ use crate::multiply::multiply;
 use code::octets;
 use code::width::Width;
 use ring::engine::RingEngine;
-use ring::refusal::Refusal;
 use wrapping::secret::reduce_secret;
 
 // Coefficients times f = 2 f' + 1, modulo 2048.
@@ -19,18 +18,17 @@ fn measured<Q: RingEngine>(
     n: usize,
     c: &[u16; 1024],
     f: &[i16; 1024],
-) -> Result<[u16; 1024], Refusal>
+) -> [u16; 1024]
     requires engine { Fits Q.RingEngine engine.old n 2048 }
     requires row { all_below 2048 (take n c.now) ≡ true }
     ensures same { Same Q.RingEngine engine.old engine.new }
-    ensures obeyed { is_ok result ≡ true }
-    ensures value { IfOk result (λ row. take n row ≡ reduced_row 2048 (measured_of n (take n f.now) (take n c.now))) }
+    ensures value { take n result ≡ reduced_row 2048 (measured_of n (take n f.now) (take n c.now)) }
 {
     let mut secret = [0u16; 1024];
     reduce_secret::<2047>(f, &mut secret);
     let mut out = [0u16; 1024];
-    multiply(engine, n, c, &secret, &mut out)?;
-    Ok(out)
+    multiply(engine, n, c, &secret, &mut out);
+    out
 }
 
 // The largest squared distance of an octet of coefficients times f from its word of a message.
@@ -41,15 +39,14 @@ pub fn distance<Q: RingEngine>(
     f: &[i16; 1024],
     message: &[u8],
     width: Width,
-) -> Result<u32, Refusal>
+) -> u32
     requires engine { Fits Q.RingEngine engine.old n 2048 }
     requires row { all_below 2048 (take n c.now) ≡ true }
     ensures same { Same Q.RingEngine engine.old engine.new }
-    ensures obeyed { is_ok result ≡ true }
-    ensures value { IfOk result (λ d. d ≡ farthest width.bits (measured_of n (take n f.now) (take n c.now)) message.now) }
+    ensures value { result ≡ farthest width.bits (measured_of n (take n f.now) (take n c.now)) message.now }
 {
-    let row = measured(engine, n, c, f)?;
-    Ok(octets::farthest(&row[0..n], message, width))
+    let row = measured(engine, n, c, f);
+    octets::farthest(&row[0..n], message, width)
 }
 
 // Writes the message of the nearest words of coefficients times f.
@@ -60,16 +57,14 @@ pub fn decode<Q: RingEngine>(
     f: &[i16; 1024],
     width: Width,
     out: &mut [u8],
-) -> Result<(), Refusal>
+)
     requires engine { Fits Q.RingEngine engine.old n 2048 }
     requires row { all_below 2048 (take n c.now) ≡ true }
     ensures same { Same Q.RingEngine engine.old engine.new }
-    ensures obeyed { result ≡ Ok tt }
     ensures writes { out.new ≡ decoded width.bits (measured_of n (take n f.now) (take n c.now)) (length out.old) }
 {
-    let row = measured(engine, n, c, f)?;
+    let row = measured(engine, n, c, f);
     octets::decode(&row[0..n], width, out);
-    Ok(())
 }
 
 // The message of the nearest words of coefficients times f, in the first bytes of an array.
@@ -79,14 +74,13 @@ pub fn message<Q: RingEngine>(
     c: &[u16; 1024],
     f: &[i16; 1024],
     width: Width,
-) -> Result<[u8; 64], Refusal>
+) -> [u8; 64]
     requires engine { Fits Q.RingEngine engine.old n 2048 }
     requires row { all_below 2048 (take n c.now) ≡ true }
     ensures same { Same Q.RingEngine engine.old engine.new }
-    ensures obeyed { is_ok result ≡ true }
-    ensures value { IfOk result (λ bytes. take (n / 16) bytes ≡ decoded width.bits (measured_of n (take n f.now) (take n c.now)) (n / 16)) }
+    ensures value { take (n / 16) result ≡ decoded width.bits (measured_of n (take n f.now) (take n c.now)) (n / 16) }
 {
     let mut out = [0u8; 64];
-    decode(engine, n, c, f, width, &mut out[0..n / 16])?;
-    Ok(out)
+    decode(engine, n, c, f, width, &mut out[0..n / 16]);
+    out
 }

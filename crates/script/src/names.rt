@@ -45,7 +45,7 @@ impl CallName {
 }
 
 impl TaskName {
-    // The task that a word names, if it names one.
+    // The task that a word names, if it names one. Not one function with `CallName::of`: each is the table of its own names.
     pub(crate) fn of(word: &[u8]) -> Option<TaskName>
         ensures { result ≡ task_name word.now }
     {

@@ -74,7 +74,8 @@ pub fn unseal<Q: RingEngine>(
     }
     let mut coefficients = [0; 1024];
     read_row(n, width, bytes, &mut coefficients)?;
-    secret::decode(engine, n, &coefficients, &padded(f), width, out)
+    secret::decode(engine, n, &coefficients, &padded(f), width, out);
+    Ok(())
 }
 
 // The width that an engine of degree n and modulus m goes on with: 1, 11.
@@ -125,7 +126,7 @@ fn wrap_into<P: RingEngine>(
     ensures obeyed { result ≡ Ok tt }
     ensures writes { out.new ≡ packed width.bits (wrap_of n width.bits (take n h.now) noise.now message.now) }
 {
-    let sigma = noise::sigma(engine, n, h, noise)?;
+    let sigma = noise::sigma(engine, n, h, noise);
     let mut c = [0; 1024];
     wrap::embed(&sigma, message, width, &mut c);
     rows::pack_row(width.bits(), &c[0..n], out)

@@ -18,18 +18,24 @@ picked k a0 a1 b0 b1 c0 c1 d0 d1 p q s t bits e ep eq es et =
 
 pub loop-k-init : goal.loop-k-init
 unfolding word
-loop-k-init c = best_none _ _ refl
+loop-k-init c = (best_none _ _ refl, omega arith)
 
 pub loop-k-preserved : goal.loop-k-preserved
 loop-k-preserved c =
     let e = picked c.loop-k.k _ _ _ _ _ _ _ _ _ _ _ _ c.word-bits.result c.word-bits.ensures c.pick.ensures.value c.pick-in-loop-k.ensures.value c.pick-in-loop-k-2.ensures.value c.pick-in-loop-k-3.ensures.value in
     elim c.if-distance-best.branch [
-      | then-distance-best w ↦ best_takes _ c.loop-k.k _ _ _ _ c.loop-k.invariant (omega (arith, e, w.if-distance-best.true)) (ap (λ b. b.number.value) w.best-is) (ap (λ b. b.distance) w.best-is ∙ e)
-      | else-distance-best w ↦ best_keeps _ c.loop-k.k _ _ _ _ c.loop-k.invariant (omega (arith, e, w.if-distance-best.false)) (ap (λ b. b.number.value) w.best-is) (ap (λ b. b.distance) w.best-is)
+      | then-distance-best w ↦ (
+          best_takes _ c.loop-k.k _ _ _ _ c.loop-k.invariant.0 (omega (arith, e, w.if-distance-best.true)) (ap (λ b. b.number.value) w.best-is) (ap (λ b. b.distance) w.best-is ∙ e),
+          omega (arith, ap (λ b. b.distance) w.best-is),
+        )
+      | else-distance-best w ↦ (
+          best_keeps _ c.loop-k.k _ _ _ _ c.loop-k.invariant.0 (omega (arith, e, w.if-distance-best.false)) (ap (λ b. b.number.value) w.best-is) (ap (λ b. b.distance) w.best-is),
+          omega (arith, c.loop-k.invariant.1, ap (λ b. b.distance) w.best-is),
+        )
     ]
 
-pub returns : goal.returns
-returns c =
+pub returns-clause-best : goal.returns-clause-best
+returns-clause-best c =
     let l : length c.args.octet ≡ 8 = search rules in
     best_same _ (distance c.args.width.bits c.args.octet) c.loop-k.k 8 _ _ (omega arith)
     (tally_is c.args.width.bits c.args.octet _ _ _ _ _ _ _ _ l
@@ -37,4 +43,4 @@ returns c =
     (c.pair_costs-b.ensures.zero, c.pair_costs-b.ensures.one)
     (c.pair_costs-c.ensures.zero, c.pair_costs-c.ensures.one)
     (c.pair_costs-d.ensures.zero, c.pair_costs-d.ensures.one))
-    c.loop-k.invariant
+    c.loop-k.invariant.0

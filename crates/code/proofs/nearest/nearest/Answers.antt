@@ -18,7 +18,7 @@ again v u x s t ex et eu l f = ex ∙ ap (λ (t : ℤ). lowered t u) et ∙ ap (
 
 pub returns-then-even-r : goal.returns-then-even-r
 returns-then-even-r c =
-    let b = c.best_even-even.ensures in
+    let b = c.best_even-even.ensures.best in
     record {
       number = sym (sure c.args.width.bits c.args.octet.now c.best_even-even.result.number.value c.told-octet (omega (arith, b.below))
           (omega (arith, b.value, c.if-even-r.true, ap (λ (x : ℕ). x * x) c.radius-r.ensures.value)));
@@ -33,7 +33,7 @@ returns-then-odd-even c =
     let k : c.drop-guard.new.self.0 ≡ c.args.octet.now = again c.args.octet.now _ _ _ _ c.drop-guard.ensures c.new-guard.ensures.by c.new-guard.ensures.held c.told-octet c.new-guard.ensures.fits in
     record {
       number = nearest_of w c.args.octet.now _ _
-          (best_second _ _ _ _ _ _ (later w c.args.octet.now _ _ (omega arith) (omega arith) e c.new-guard.ensures.held) c.best_even-even.ensures c.best_even-odd.ensures (omega (arith, c.if-odd-even.true)));
+          (best_second _ _ _ _ _ _ (later w c.args.octet.now _ _ (omega arith) (omega arith) e c.new-guard.ensures.held) c.best_even-even.ensures.best c.best_even-odd.ensures.best (omega (arith, c.if-odd-even.true)));
       kept = grind (arith, n, k);
     }
 
@@ -45,6 +45,6 @@ returns c =
     let k : c.drop-guard-2.new.self.0 ≡ c.args.octet.now = again c.args.octet.now _ _ _ _ c.drop-guard-2.ensures c.new-guard.ensures.by c.new-guard.ensures.held c.told-octet c.new-guard.ensures.fits in
     record {
       number = nearest_of w c.args.octet.now _ _
-          (best_first _ _ _ _ _ _ (later w c.args.octet.now _ _ (omega arith) (omega arith) e c.new-guard.ensures.held) c.best_even-even.ensures c.best_even-odd.ensures (omega (arith, c.if-odd-even.false)));
+          (best_first _ _ _ _ _ _ (later w c.args.octet.now _ _ (omega arith) (omega arith) e c.new-guard.ensures.held) c.best_even-even.ensures.best c.best_even-odd.ensures.best (omega (arith, c.if-odd-even.false)));
       kept = grind (arith, n, k);
     }

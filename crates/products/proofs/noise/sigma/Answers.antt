@@ -1,9 +1,8 @@
 use Rattle.std.proofs.Common.{take, ◌∙◌}
-use Rattle.std.proofs.lemmas.Result.{IfOk-weaker}
 use Rattle.products.proofs.Reducing.{sigma_is}
 use Rattle.products.proofs.noise.sigma.Goals as goal
 
 pub returns-clause-value : goal.returns-clause-value
 returns-clause-value g c =
     let n = c.args.n in
-    IfOk-weaker c.times.result _ _ (λ row e. e ∙ sigma_is n (take n c.args.h.now) c.args.noise.now c.requires.rows.0) c.times.ensures.value
+    c.times.ensures.value ∙ sigma_is n (take n c.args.h.now) c.args.noise.now c.requires.rows.0

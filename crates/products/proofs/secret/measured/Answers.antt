@@ -23,6 +23,5 @@ returns g c =
     let front = secret_front n f c.reduce_secret.new.out c.told-f c.reduce_secret.ensures in
     record {
       same = c.multiply.ensures.same;
-      obeyed = refl;
       value = measured_is m n (take n c.multiply.new.out) (take n c.args.c.now) (take n c.reduce_secret.new.out) (take n f) c.requires.engine.1 c.requires.row front c.multiply.ensures.product;
     }
