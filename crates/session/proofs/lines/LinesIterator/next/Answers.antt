@@ -14,7 +14,7 @@ returns-in-Some c =
     let first : c.position.result ≡ position feed text =
     position_from_yields_List feed _ _ c.position.result c.position.ensures.ran (YieldsList-from_slice text cc) (λ x b q k. search (rules, tests)) in
     record {
-      steps = broken text _ _ c.in-Some.i (omega arith) (sym first ∙ c.in-Some.is) refl (take_rest text (c.in-Some.i + 1));
+      steps = broken text _ _ c.in-Some.i (omega arith) (sym first ∙ c.in-Some.is) (search rules) (take_rest text (c.in-Some.i + 1));
       goes = search rules;
     }
 
