@@ -12,8 +12,8 @@ use Rattle.products.proofs.Fronts.{take_all-below}
 use Rattle.places.proofs.RowParts.{halvings_below, halved-below, halvings_is}
 use Rattle.places.proofs.lines.shortened.Goals as goal
 
-pub distance-requires : goal.distance-requires
-distance-requires g c =
+pub distance-distance-requires : goal.distance-distance-requires
+distance-distance-requires g c =
     let key = c.args.key.now in
     let row = c.args.filled.coefficients in
     let l : length row ≡ 1024 = search rules in
@@ -38,7 +38,7 @@ returns g c =
     let n = key.degree in
     let row = c.args.filled.coefficients in
     let w = c.args.filled.width.bits in
-    let two = c.in_ok-distance.ensures in
+    let two = c.distance-distance.ensures in
     let l : length row ≡ 1024 = search rules in
     let e : c.args.width.bits ≡ w - 1 = omega (arith, c.requires.width) in
     let halvings-are : take n c.halvings.new.out ≡ map halving (take n row) =

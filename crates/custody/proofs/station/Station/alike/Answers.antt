@@ -16,7 +16,7 @@ pub message-requires-2 : goal.message-requires-2
 message-requires-2 g c =
     let key = c.args.self.now.register.key in
     let r = keyed_is key _ _ (sym c.keyed.ensures ∙ c.in_ok-keyed.was) in
-    let one = c.in_ok-left.ensures in
+    let one = c.message-left.ensures in
     record {
       engine = (one.same.0 ∙ r.binary_degree ∙ r.field_degree, one.same.1 ∙ r.binary_modulus, key.size.1);
       row = filled-below key.degree c.in_ok-b.b;

@@ -15,12 +15,12 @@ made-self-requires g c =
     let noise = c.args.g.now in
     let n = length f in
     let u = take n c.inverse_of.new.u in
-    let h = c.in_ok-h.h in
+    let h = c.times-h.result in
     let k = checked told f noise c.in_ok-check.field-0 c.in_ok-check.ensures in
     let sizes = g.P.RingEngine.sizes field in
     let lg : length noise ≡ n = k.g_long ∙ sym k.f_long in
-    let value = c.in_ok-h.ensures.value ∙ swapped n u noise (omega arith) c.in_ok-inverse_of.ensures.long lg in
-    let cut : Cut 0 n h = (omega arith, c.in_ok-h.ensures.rest) in
+    let value = c.times-h.ensures.value ∙ swapped n u noise (omega arith) c.in_ok-inverse_of.ensures.long lg in
+    let cut : Cut 0 n h = (omega arith, c.times-h.ensures.rest) in
     record {
       degree = ((omega arith, omega arith), lg);
       small = (k.f_small, k.g_small);
@@ -40,5 +40,5 @@ returns-clause-keyed g c =
     let k = checked told f noise c.in_ok-check.field-0 c.in_ok-check.ensures in
     let sizes = g.P.RingEngine.sizes field in
     let lg : length noise ≡ n = k.g_long ∙ sym k.f_long in
-    let value = c.in_ok-h.ensures.value ∙ swapped n u noise (omega arith) c.in_ok-inverse_of.ensures.long lg in
+    let value = c.times-h.ensures.value ∙ swapped n u noise (omega arith) c.in_ok-inverse_of.ensures.long lg in
     search (rules, value)
