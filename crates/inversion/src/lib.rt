@@ -4,4 +4,5 @@
 pub mod division;
 pub mod euclid;
 pub mod leading;
+pub mod line;
 mod working;

@@ -1,0 +1,10 @@
+use Rattle.inversion.specs.Leading.{field}
+use Rattle.inversion.proofs.Fillings.{added_part, added_past}
+use Rattle.inversion.proofs.line.add_shifted.Goals as goal
+
+pub returns-then-shift-target : goal.returns-then-shift-target
+returns-then-shift-target c =
+    added_part field c.args.shift c.args.target.now c.args.k c.args.row.now c.add_multiple.new.target c.add_multiple.ensures
+
+pub returns-else-shift-target : goal.returns-else-shift-target
+returns-else-shift-target c = added_past field c.args.shift c.args.target.now c.args.k c.args.row.now c.if-shift-target.false
