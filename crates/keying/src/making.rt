@@ -1,5 +1,5 @@
 // Keying: a draft takes f' and g, and h is made so that h·f = g.
-ghost use Rattle.std.specs.Prelude.{◌≡◌, ◌-◌, ◌%◌, ◌<◌, ◌≤◌, true, length, take, replicate, is_ok, IfOk};
+ghost use Rattle.std.specs.Prelude.{◌≡◌, ◌-◌, ◌<◌, true, length, take};
 ghost use Rattle.ring.specs.Engines.{all_below, product_mod};
 ghost use Rattle.wrapping.specs.Secrets.{all_small, reduced_row, secret};
 ghost use Rattle.keying.specs.KeyLaw.{Cut, KeyDegree};

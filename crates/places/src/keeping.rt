@@ -1,5 +1,5 @@
 // The eight places of a register: looked at, filled, emptied and joined.
-ghost use Rattle.std.specs.Prelude.{◌≡◌, ◌<◌, length, Some, None, Ok, slice_set};
+ghost use Rattle.std.specs.Prelude.{◌≡◌, ◌<◌, Some, None, Ok, slice_set};
 ghost use Rattle.places.specs.Changes.{emptied, put};
 ghost use Rattle.places.specs.Books.{at, empty_book};
 ghost use Rattle.places.specs.Checks.{deposit_width, depositable as depositable_of, join_places, found, placed, vacant as vacant_of};

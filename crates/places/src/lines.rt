@@ -1,5 +1,5 @@
 // The records that a deposit, a join and a trim make, each refused where it would be too noisy.
-ghost use Rattle.std.specs.Prelude.{◌≡◌, ℕ, ◌+◌, ◌^◌, ◌<◌, ◌≤◌, true, length, take};
+ghost use Rattle.std.specs.Prelude.{◌≡◌, ℕ, ◌+◌, ◌^◌, ◌<◌, true, length, take};
 ghost use Rattle.ring.specs.Engines.{all_below};
 ghost use Rattle.places.specs.Lines.{candidate, quiet as quiet_of, deposited as deposited_of, together as together_of, shortened as shortened_of};
 ghost use Rattle.keying.specs.Told.{ready, telling};

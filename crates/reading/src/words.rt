@@ -9,6 +9,7 @@ use crate::fault::Unread;
 use crate::pieces::{Pieces, Separator};
 use std::iter::Iterator;
 
+// Each method that reads a word says in `leaves` that it takes just that word: what it does, and no fact about a value.
 #[derive(Drop)]
 pub struct Words<'a> {
     pieces: Pieces<'a>,

@@ -25,13 +25,13 @@ loop-k-preserved c =
     let e = picked c.loop-k.k _ _ _ _ _ _ _ _ _ _ _ _ c.word-bits.result c.word-bits.ensures c.pick.ensures.value c.pick-in-loop-k.ensures.value c.pick-in-loop-k-2.ensures.value c.pick-in-loop-k-3.ensures.value in
     elim c.if-distance-best.branch [
       | then-distance-best w ↦ (
-          best_takes _ c.loop-k.k _ _ _ _ c.loop-k.invariant.0 (omega (arith, e, w.if-distance-best.true)) (ap (λ b. b.number.value) w.best-is) (ap (λ b. b.distance) w.best-is ∙ e),
-          omega (arith, ap (λ b. b.distance) w.best-is),
-        )
+        best_takes _ c.loop-k.k _ _ _ _ c.loop-k.invariant.0 (omega (arith, e, w.if-distance-best.true)) (ap (λ b. b.number.value) w.best-is) (ap (λ b. b.distance) w.best-is ∙ e),
+        omega (arith, ap (λ b. b.distance) w.best-is),
+      )
       | else-distance-best w ↦ (
-          best_keeps _ c.loop-k.k _ _ _ _ c.loop-k.invariant.0 (omega (arith, e, w.if-distance-best.false)) (ap (λ b. b.number.value) w.best-is) (ap (λ b. b.distance) w.best-is),
-          omega (arith, c.loop-k.invariant.1, ap (λ b. b.distance) w.best-is),
-        )
+        best_keeps _ c.loop-k.k _ _ _ _ c.loop-k.invariant.0 (omega (arith, e, w.if-distance-best.false)) (ap (λ b. b.number.value) w.best-is) (ap (λ b. b.distance) w.best-is),
+        omega (arith, c.loop-k.invariant.1, ap (λ b. b.distance) w.best-is),
+      )
     ]
 
 pub returns-clause-best : goal.returns-clause-best

@@ -1,4 +1,4 @@
-use Rattle.std.proofs.Common.{◌≡◌, ℕ, true, take, sym, refl, subst, arith}
+use Rattle.std.proofs.Common.{◌≡◌, ℕ, true, take, sym, subst, arith}
 use Rattle.ring.specs.Engines.{all_below}
 use Rattle.wrapping.specs.Secrets.{secret}
 use Rattle.products.proofs.Reducing.{secret_front, front_below, measured_is}

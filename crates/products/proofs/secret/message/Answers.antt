@@ -1,4 +1,4 @@
-use Rattle.std.proofs.Common.{◌≡◌, ℕ, ◌-◌, ◌/◌, ◌≤◌, List, length, take, drop, replicate, refl, ap, ◌∙◌, arith, length-take}
+use Rattle.std.proofs.Common.{◌≡◌, ℕ, ◌-◌, ◌/◌, ◌≤◌, List, length, take, drop, replicate, ap, ◌∙◌, arith, length-take}
 use lib.ListN.{length-replicate}
 use Rattle.code.specs.Rows.{decoded}
 use Rattle.wrapping.specs.Wraps.{measured}

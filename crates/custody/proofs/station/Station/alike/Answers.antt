@@ -3,8 +3,8 @@ use Rattle.places.proofs.RowParts.{filled-below}
 use Rattle.custody.proofs.Keyed.{keyed_is}
 use Rattle.custody.proofs.station.Station.alike.Goals as goal
 
-pub message-requires : goal.message-requires
-message-requires g c =
+pub message-left-requires : goal.message-left-requires
+message-left-requires g c =
     let key = c.args.self.now.register.key in
     let r = keyed_is key _ _ (sym c.keyed.ensures ∙ c.in_ok-keyed.was) in
     record {
@@ -12,8 +12,8 @@ message-requires g c =
       row = filled-below key.degree c.in_ok-a.a;
     }
 
-pub message-requires-2 : goal.message-requires-2
-message-requires-2 g c =
+pub message-right-requires : goal.message-right-requires
+message-right-requires g c =
     let key = c.args.self.now.register.key in
     let r = keyed_is key _ _ (sym c.keyed.ensures ∙ c.in_ok-keyed.was) in
     let one = c.message-left.ensures in
