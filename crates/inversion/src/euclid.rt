@@ -8,7 +8,7 @@ ghost use Rattle.inversion.specs.Euclid.{last_of, reciprocal, remainders};
 ghost use Rattle.inversion.specs.Inverse.{refused, Inverse, NoInverseOf, Only};
 
 use crate::division::divide;
-use crate::line::Line;
+use crate::leading::leading;
 use crate::working;
 use ring::coefficient::Coefficient;
 use ring::engine::MAX_DEGREE;
@@ -20,41 +20,44 @@ use ring::rows;
 const PLACES: usize = MAX_DEGREE + 1;
 
 // Writes the inverse that the last remainder and its cofactor give, if that remainder is a constant.
-fn finish(last: &Line<'_>, u: &mut [Mod3457]) -> Result<(), Refusal>
-    ensures found { MatchResult result (λ _. (leading_place last.now.row.now ≡ Some 0) × (u.new ≡ add_into field (zeros field (length u.old)) (reciprocal (at field last.now.row.now 0)) last.now.cofactor.now)) (λ _. leading_place last.now.row.now ≢ Some 0) }
+fn finish(last: &[Mod3457], cofactor: &[Mod3457], u: &mut [Mod3457]) -> Result<(), Refusal>
+    ensures found { MatchResult result (λ _. (leading_place last.now ≡ Some 0) × (u.new ≡ add_into field (zeros field (length u.old)) (reciprocal (at field last.now 0)) cofactor.now)) (λ _. leading_place last.now ≢ Some 0) }
     ensures refuses { IfErr result (λ e. (e ≡ NoInverse) × (u.new ≡ u.old)) }
 {
-    if last.leading() != Some(0) {
+    if leading(last) != Some(0) {
         return Err(Refusal::NoInverse);
     }
-    let scale = working::inverse_at(last.row, 0).ok_or(Refusal::NoInverse)?;
+    let scale = working::inverse_at(last, 0).ok_or(Refusal::NoInverse)?;
     u.fill(Mod3457::zero());
-    rows::add_multiple(u, scale, last.cofactor);
+    rows::add_multiple(u, scale, cofactor);
     Ok(())
 }
 
-// Runs Euclid's algorithm on x^n - x^(n/2) + 1 and f, with two lines of n + 1 places to work in.
+// Runs Euclid's algorithm on x^n - x^(n/2) + 1 and f, with four rows of n + 1 places to work in.
 fn solve(
     f: &[Mod3457],
     u: &mut [Mod3457],
-    upper: &mut Line<'_>,
-    lower: &mut Line<'_>,
+    upper: &mut [Mod3457],
+    upper_cofactor: &mut [Mod3457],
+    lower: &mut [Mod3457],
+    lower_cofactor: &mut [Mod3457],
 ) -> Result<(), Refusal>
     requires lengths { (0 < length f.now) × (length u.old ≡ length f.now) }
-    requires rooms { (length upper.old.row.now ≡ length f.now + 1) × (length upper.old.cofactor.now ≡ length f.now + 1) × (length lower.old.row.now ≡ length f.now + 1) × (length lower.old.cofactor.now ≡ length f.now + 1) }
+    requires rooms { (length upper.old ≡ length f.now + 1) × (length upper_cofactor.old ≡ length f.now + 1) × (length lower.old ≡ length f.now + 1) × (length lower_cofactor.old ≡ length f.now + 1) }
     ensures found { MatchResult result (λ _. Inverse f.now u.new) (λ _. NoInverseOf f.now) }
     ensures refuses { IfErr result (λ e. (e ≡ NoInverse) × (u.new ≡ u.old)) }
-    ensures last { upper.new.row.now ≡ last_of (modulus_row field (length f.now)) (remainders (length f.now) f.now) }
+    ensures last { upper.new ≡ last_of (modulus_row field (length f.now)) (remainders (length f.now) f.now) }
 {
-    working::set_modulus(upper.row, f.len());
-    upper.cofactor.fill(Mod3457::zero());
-    working::set_padded(lower.row, f);
-    working::set_one(lower.cofactor);
-    while lower.leading().is_some() {
-        divide(upper, lower);
-        upper.exchange(lower);
+    working::set_modulus(upper, f.len());
+    upper_cofactor.fill(Mod3457::zero());
+    working::set_padded(lower, f);
+    working::set_one(lower_cofactor);
+    while leading(lower).is_some() {
+        divide(upper, upper_cofactor, lower, lower_cofactor);
+        upper.swap_with_slice(lower);
+        upper_cofactor.swap_with_slice(lower_cofactor);
     }
-    finish(upper, u)
+    finish(upper, upper_cofactor, u)
 }
 
 // Writes into u the one polynomial whose product with f is 1 modulo 3457, or refuses and leaves u as it was.
@@ -78,13 +81,9 @@ pub fn invert(f: &[Mod3457], u: &mut [Mod3457]) -> Result<(), Refusal>
     solve(
         f,
         u,
-        &mut Line {
-            row: &mut upper[..n + 1],
-            cofactor: &mut upper_cofactor[..n + 1],
-        },
-        &mut Line {
-            row: &mut lower[..n + 1],
-            cofactor: &mut lower_cofactor[..n + 1],
-        },
+        &mut upper[..n + 1],
+        &mut upper_cofactor[..n + 1],
+        &mut lower[..n + 1],
+        &mut lower_cofactor[..n + 1],
     )
 }

@@ -4,5 +4,4 @@
 pub mod division;
 pub mod euclid;
 pub mod leading;
-pub mod line;
 mod working;

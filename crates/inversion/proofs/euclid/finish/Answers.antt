@@ -16,7 +16,7 @@ at_zero (Some p) h = ap Some (eqb-true p 0 (not-false (eqb p 0) h))
 
 pub returns : goal.returns
 returns c =
-    let row = c.args.last.now.row.now in
+    let row = c.args.last.now in
     let x = at field row 0 in
     let scale = c.in_ok-scale.scale in
     let e : leading row ≡ Some 0 = sym c.leading.ensures.is ∙ at_zero c.leading.result (sym c.ne.ensures ∙ c.if-ne.false) in
@@ -27,7 +27,7 @@ returns c =
       found = (
         e,
         c.add_multiple.ensures
-            ∙ ap₂ (λ w k. add_into field w k c.args.last.now.cofactor.now) (c.fill.ensures.after (λ y q. q) ∙ ap (replicate _) c.zero.ensures) scale-is,
+            ∙ ap₂ (λ w k. add_into field w k c.args.cofactor.now) (c.fill.ensures.after (λ y q. q) ∙ ap (replicate _) c.zero.ensures) scale-is,
       );
       refuses = tt;
     }

@@ -1,4 +1,4 @@
-use Rattle.std.proofs.Common.{◌≡◌, ◌<◌, List, length, is_some as option_is_some, None, replicate, sym, ap, ◌∙◌, subst, ap₂}
+use Rattle.std.proofs.Common.{◌≡◌, ◌<◌, List, is_some as option_is_some, None, replicate, sym, ap, ◌∙◌, subst, ap₂}
 use Rattle.ring.specs.Rows.{unit}
 use Rattle.inversion.specs.Leading.{F, field, leading}
 use Rattle.inversion.proofs.Runs.{height, run_starts, run_goes, run_falls, run_ends, run_moved, is_some, is_none}
@@ -12,36 +12,26 @@ loop-upper-init c =
 
 pub loop-upper-smaller : goal.loop-upper-smaller
 loop-upper-smaller c =
-    let q = is_some (leading c.loop-upper.lower.row.now) (sym (c.is_some.ensures ∙ ap option_is_some c.leading.ensures.is) ∙ c.loop-upper-test.true) in
-    let falls = run_falls c.args.f.now c.loop-upper.upper.row.now c.loop-upper.upper.cofactor.now c.loop-upper.lower.row.now c.loop-upper.lower.cofactor.now
+    let q = is_some (leading c.loop-upper.lower) (sym (c.is_some.ensures ∙ ap option_is_some c.leading.ensures.is) ∙ c.loop-upper-test.true) in
+    let falls = run_falls c.args.f.now c.loop-upper.upper c.loop-upper.upper_cofactor c.loop-upper.lower c.loop-upper.lower_cofactor
     c.requires.lengths.0 c.loop-upper.invariant q.0 q.1 in
-    subst (λ (x : List F). height (leading x) < height (leading c.loop-upper.lower.row.now)) (sym (c.exchange.ensures.other_row ∙ c.divide.ensures.row)) falls
+    subst (λ (x : List F). height (leading x) < height (leading c.loop-upper.lower)) (sym (c.swap_with_slice.ensures.other_after ∙ c.divide.ensures.row)) falls
 
 pub loop-upper-preserved : goal.loop-upper-preserved
 loop-upper-preserved c =
-    let q = is_some (leading c.loop-upper.lower.row.now) (sym (c.is_some.ensures ∙ ap option_is_some c.leading.ensures.is) ∙ c.loop-upper-test.true) in
-    run_moved (sym c.exchange.ensures.row) (sym c.exchange.ensures.beside)
-    (sym (c.exchange.ensures.other_row ∙ c.divide.ensures.row)) (sym (c.exchange.ensures.other_beside ∙ c.divide.ensures.beside))
-    (run_goes c.args.f.now c.loop-upper.upper.row.now c.loop-upper.upper.cofactor.now c.loop-upper.lower.row.now c.loop-upper.lower.cofactor.now
+    let q = is_some (leading c.loop-upper.lower) (sym (c.is_some.ensures ∙ ap option_is_some c.leading.ensures.is) ∙ c.loop-upper-test.true) in
+    run_moved (sym c.swap_with_slice.ensures.after) (sym c.swap_with_slice-in-loop-upper.ensures.after)
+    (sym (c.swap_with_slice.ensures.other_after ∙ c.divide.ensures.row)) (sym (c.swap_with_slice-in-loop-upper.ensures.other_after ∙ c.divide.ensures.beside))
+    (run_goes c.args.f.now c.loop-upper.upper c.loop-upper.upper_cofactor c.loop-upper.lower c.loop-upper.lower_cofactor
     c.requires.lengths.0 c.loop-upper.invariant q.0 q.1)
 
 pub returns : goal.returns
 returns c =
-    let end : leading c.loop-upper.lower.row.now ≡ None =
-    is_none (leading c.loop-upper.lower.row.now) (sym (c.is_some.ensures ∙ ap option_is_some c.leading.ensures.is) ∙ c.loop-upper-test.false) in
+    let end : leading c.loop-upper.lower ≡ None =
+    is_none (leading c.loop-upper.lower) (sym (c.is_some.ensures ∙ ap option_is_some c.leading.ensures.is) ∙ c.loop-upper-test.false) in
     record {
-      found = solved c.args.f.now c.args.u.now c.loop-upper.upper.row.now c.loop-upper.upper.cofactor.now c.loop-upper.lower.row.now c.loop-upper.lower.cofactor.now
+      found = solved c.args.f.now c.args.u.now c.loop-upper.upper c.loop-upper.upper_cofactor c.loop-upper.lower c.loop-upper.lower_cofactor
           c.finish.new.u c.finish.result c.requires.lengths.0 c.requires.lengths.1 c.loop-upper.invariant end c.finish.ensures.found;
       refuses = c.finish.ensures.refuses;
-      last = run_ends c.args.f.now c.loop-upper.upper.row.now c.loop-upper.upper.cofactor.now c.loop-upper.lower.row.now c.loop-upper.lower.cofactor.now c.loop-upper.invariant end;
-    }
-
-pub exchange-requires : goal.exchange-requires
-exchange-requires c =
-    let q = is_some (leading c.loop-upper.lower.row.now) (sym (c.is_some.ensures ∙ ap option_is_some c.leading.ensures.is) ∙ c.loop-upper-test.true) in
-    let next = run_goes c.args.f.now c.loop-upper.upper.row.now c.loop-upper.upper.cofactor.now c.loop-upper.lower.row.now c.loop-upper.lower.cofactor.now
-    c.requires.lengths.0 c.loop-upper.invariant q.0 q.1 in
-    record {
-      rows = ap length c.divide.ensures.row ∙ next.chain.lower_long ∙ sym next.chain.upper_long;
-      cofactors = ap length c.divide.ensures.beside ∙ next.chain.lower_cofactor-long ∙ sym next.chain.upper_cofactor-long;
+      last = run_ends c.args.f.now c.loop-upper.upper c.loop-upper.upper_cofactor c.loop-upper.lower c.loop-upper.lower_cofactor c.loop-upper.invariant end;
     }
