@@ -8,16 +8,22 @@ use custody::exchange::Exchange;
 use ring::refusal::Refusal;
 use std::alloc::Global;
 
+// A call that has to be obeyed.
+fn obeyed(desk: &mut Desk, call: Call<'_>) -> anyhow::Result<()> {
+    if desk.obeys(call) {
+        Ok(())
+    } else {
+        Err(anyhow!("a deposit or a join was refused"))
+    }
+}
+
 // A station whose place 0 holds 85 deposits of allowance 6, joined one by one at width 10.
 fn nearly_full() -> anyhow::Result<Desk> {
     let mut desk = Desk::new(&[0; 16], &at_zero(1))?;
-    let mut obeyed = desk.obeys(calls::wrapping(0, 10, &[6; 16]));
+    obeyed(&mut desk, calls::wrapping(0, 10, &[6; 16]))?;
     for _ in 0..84 {
-        obeyed = obeyed && desk.obeys(calls::wrapping(1, 10, &[6; 16]));
-        obeyed = obeyed && desk.obeys(calls::join(0, 1));
-    }
-    if !obeyed {
-        return Err(anyhow!("a deposit or a join was refused"));
+        obeyed(&mut desk, calls::wrapping(1, 10, &[6; 16]))?;
+        obeyed(&mut desk, calls::join(0, 1))?;
     }
     Ok(desk)
 }

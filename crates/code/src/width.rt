@@ -10,7 +10,7 @@ pub struct Width {
 }
 
 impl Width {
-    // The width of so many bits, if there is one. An Option and no TryFrom: what to refuse with is for the callers to say.
+    // The width of so many bits, if there is one. An Option and no TryFrom, as no refusals are known here.
     pub fn new(bits: u32) -> Option<Width>
         ensures { option_map (λ (w : Width). w.bits) result ≡ offered bits }
     {

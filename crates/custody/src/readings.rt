@@ -112,7 +112,7 @@ impl<P: RingEngine, Q: RingEngine> Station<P, Q> {
     }
 }
 
-// Whether two messages are the same.
+// Whether two messages are the same: std's `==`, by the word that the definitions have for it.
 fn same(left: &[u8], right: &[u8]) -> bool
     ensures { result ≡ same_bytes left.now right.now }
 {

@@ -25,7 +25,8 @@ impl<P: RingEngine, Q: RingEngine> Station<P, Q> {
         self.keyed()?;
         let width = self.register.vacant(place, width, noise, message)?;
         let filled = lines::deposited(
-            &mut self.engines,
+            &mut self.engines.field,
+            &mut self.engines.binary,
             &self.register.key,
             width,
             noise,

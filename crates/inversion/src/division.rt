@@ -18,6 +18,9 @@ fn add_shifted<C: Coefficient>(target: &mut [C], k: C, shift: usize, row: &[C])
     }
 }
 
+// Rows and cofactors apart, here and below: a struct that held both to be written would ask its callers for the lower row
+// to be written too, which is only read.
+
 // Clears the places of the upper row from its leading place `top` down to the leading place of the lower row,
 // where `scale` is the inverse of the lower row's leading coefficient.
 fn reduce<C: Coefficient>(

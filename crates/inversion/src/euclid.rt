@@ -16,7 +16,7 @@ use ring::modular::Mod3457;
 use ring::refusal::Refusal;
 use ring::rows;
 
-// The places of a working row: one more than a polynomial has.
+// The places of a working row: one more than a polynomial has. Arrays, since nothing here asks for memory.
 const PLACES: usize = MAX_DEGREE + 1;
 
 // Writes the inverse that the last remainder and its cofactor give, if that remainder is a constant.

@@ -1,4 +1,5 @@
-// The rows that Euclid's algorithm works in: how they are filled and read.
+// The rows that Euclid's algorithm works in: how they are filled and read. Over residues alone, since std's `fill` has to know
+// that a clone of a coefficient is that coefficient.
 ghost use Rattle.std.specs.Prelude.{◌≡◌, ◌+◌, ◌<◌, ◌++◌, length, MatchOption};
 ghost use Rattle.ring.specs.Rows.{modulus_row, unit, zeros};
 ghost use Rattle.inversion.specs.Places.{at};

@@ -74,7 +74,7 @@ fn check_residues(row: &[u16]) -> Result<(), Refusal>
     Ok(())
 }
 
-// Packs entries that were checked, so that each fits in its bits.
+// Packs entries that were checked, so that each fits in its bits; what packing a row answers is passed on.
 fn write_key(row: &[u16], out: &mut [u8]) -> Result<(), Refusal>
     requires residues { all_below 3457 row.now ≡ true }
     requires fills { length out.old * 8 ≡ length row.now * 12 }

@@ -1,4 +1,4 @@
-// The widths that are packed.
+// The widths that are packed. Not the widths of `code`, which end at 11 and belong to a crate of its own.
 ghost use Rattle.std.specs.Prelude.{◌≡◌, ◌≤◌, Ok, Err, MatchResult};
 ghost use Rattle.packing.specs.Answers.{width_answer};
 

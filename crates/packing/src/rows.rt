@@ -68,7 +68,7 @@ fn write_row(width: Narrow, row: &[u16], out: &mut [u8])
     }
 }
 
-// Reads as many numbers as there are places, which the bytes have exactly the bits for.
+// Reads as many numbers as there are places, which the bytes have exactly the bits for; what the reader answers is passed on.
 fn read_row(width: Narrow, bytes: &[u8], out: &mut [u16]) -> Result<(), Refusal>
     requires { length bytes.now * 8 ≡ length out.old * width.bits }
     ensures answers { result ≡ Ok tt }

@@ -9,7 +9,6 @@ ghost use Rattle.products.specs.Asking.{Same};
 use crate::filled::Filled;
 use code::root::root_up;
 use code::width::Width;
-use keying::engines::Engines;
 use keying::key::Key;
 use products::{noise, secret};
 use ring::engine::RingEngine;
@@ -31,24 +30,24 @@ fn quiet(width: Width, coefficients: [u16; 1024], allowance: u64) -> Result<Fill
     })
 }
 
-// The record that a deposit fills.
+// The record that a deposit fills. The engines are lent apart, so that they may come from anywhere.
 pub fn deposited<P: RingEngine, Q: RingEngine>(
-    engines: &mut Engines<P, Q>,
+    field: &mut P,
+    binary: &mut Q,
     key: &Key,
     width: Width,
     noise: &[i16],
     message: &[u8],
 ) -> Result<Filled, Refusal>
-    requires engines { ready key.now.degree (telling P.RingEngine Q.RingEngine engines.old.field engines.old.binary) ≡ true }
+    requires engines { ready key.now.degree (telling P.RingEngine Q.RingEngine field.old binary.old) ≡ true }
     requires noise { length noise.now ≡ key.now.degree }
-    ensures told { telling P.RingEngine Q.RingEngine engines.new.field engines.new.binary ≡ telling P.RingEngine Q.RingEngine engines.old.field engines.old.binary }
+    ensures told { telling P.RingEngine Q.RingEngine field.new binary.new ≡ telling P.RingEngine Q.RingEngine field.old binary.old }
     ensures answers { lined key.now.degree result ≡ quiet_of (deposited_of key.now width.bits noise.now message.now) }
 {
     let n = key.degree;
-    let sigma = noise::sigma(&mut engines.field, n, &key.h, noise);
+    let sigma = noise::sigma(field, n, &key.h, noise);
     let mut coefficients = [0u16; 1024];
     wrap::embed(&sigma, message, width, &mut coefficients);
-    let binary = &mut engines.binary;
     let distance = secret::distance(binary, n, &coefficients, &key.f, message, width);
     quiet(width, coefficients, root_up(distance) as u64)
 }

@@ -12,7 +12,7 @@ use code::width::Width;
 use ring::engine::RingEngine;
 use wrapping::secret::reduce_secret;
 
-// Coefficients times f = 2 f' + 1, modulo 2048.
+// Coefficients times f = 2 f' + 1, modulo 2048. Not `small::times` at another modulus: there the row is reduced as it is.
 fn measured<Q: RingEngine>(
     engine: &mut Q,
     n: usize,

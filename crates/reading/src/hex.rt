@@ -7,7 +7,7 @@ ghost use Rattle.reading.specs.Steps.{seen};
 use crate::fault::{Fault, Unread};
 use std::alloc::Global;
 
-// The value of a hexadecimal digit.
+// The value of a hexadecimal digit, by its ranges: std's `to_digit` takes a char and answers a wider number.
 pub fn digit(code: u8) -> Result<u8, Unread>
     ensures { result ≡ digit_value code }
 {
@@ -40,7 +40,7 @@ pub fn read(heap: Global, word: &[u8]) -> Result<Vec<u8>, Fault>
     if !rest.is_empty() {
         return Err(Fault::Unread(Unread::Hex));
     }
-    // A loop, since the contract of `try_collect` does not say at which item it fails.
+    // A loop, as short as a chain: an item and the heap fail each in its own way, and a `?` makes one fault of either.
     for [high, low] in pairs {
         out.push(byte(*high, *low)?)?;
     }

@@ -95,7 +95,7 @@ fn narrowed<C: Coefficient + Drop>(heap: Global, row: &[i32]) -> Result<Vec<C>, 
     ensures { Spared (seen vec_items result) (faulty (each C.reads row.now)) }
 {
     let mut out = Vec::new(heap);
-    // A loop, since the contract of `try_collect` does not say at which item it fails.
+    // A loop, as short as a chain: an item and the heap fail each in its own way, and a `?` makes one fault of either.
     for value in row {
         out.push(C::of(*value)?)?;
     }

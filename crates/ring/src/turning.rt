@@ -10,7 +10,7 @@ use crate::refusal::Refusal;
 use crate::residue::Residue;
 use crate::{engine, rows};
 
-// An engine of a lawful degree, for either modulus: a number and no type, since a script names it.
+// An engine of a lawful degree, for either modulus: a number and no enum, since the laws, the definitions and a script speak of the number.
 #[derive(Drop)]
 pub struct Turning {
     degree: usize,
@@ -55,6 +55,7 @@ fn product_into<const LAST: u16>(a: &[u16], b: &[u16], out: &mut [u16])
     ensures { out.new ≡ product_to LAST (length out.old) a.now b.now }
 {
     let n = out.len();
+    // Arrays of the largest degree, since an engine asks for no memory.
     let mut left = [Residue::<LAST>::zero(); MAX_DEGREE];
     let mut right = [Residue::<LAST>::zero(); MAX_DEGREE];
     let mut result = [Residue::<LAST>::zero(); MAX_DEGREE];

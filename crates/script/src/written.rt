@@ -5,7 +5,7 @@ ghost use Rattle.script.specs.Written.{byte_digits, digit_code as code_of, hex_o
 
 use std::fmt;
 
-// The digit of a value below sixteen.
+// The digit of a value below sixteen; std's `from_digit` would answer an Option of a char.
 fn digit_code(value: u8) -> u8
     requires { value < 16 }
     ensures { result ≡ code_of value }

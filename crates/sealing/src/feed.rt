@@ -101,7 +101,7 @@ fn read_key(n: usize, key: &[u8], h: &mut [u16; 1024]) -> Result<(), Refusal>
     keys::unpack_key(n, key, &mut h[0..n])
 }
 
-// Reads the row that sealed bytes hold.
+// Reads the row that sealed bytes hold; what packing answers is passed on.
 fn read_row(n: usize, width: Width, bytes: &[u8], c: &mut [u16; 1024]) -> Result<(), Refusal>
     requires { (n ≤ 1024) × (length bytes.now * 8 ≡ n * width.bits) }
     ensures obeyed { result ≡ Ok tt }
@@ -110,7 +110,7 @@ fn read_row(n: usize, width: Width, bytes: &[u8], c: &mut [u16; 1024]) -> Result
     rows::unpack_row(width.bits(), bytes, &mut c[0..n])
 }
 
-// Wraps a message under the row h and writes the bytes; all was checked.
+// Wraps a message under the row h and writes the bytes; all was checked, and what packing answers is passed on.
 fn wrap_into<P: RingEngine>(
     engine: &mut P,
     n: usize,

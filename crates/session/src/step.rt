@@ -33,7 +33,7 @@ fn is_comment(word: &[u8]) -> bool
 }
 
 impl Session {
-    // Answers a line; an empty one and a comment have no reply.
+    // Answers a line; an empty one and a comment have no reply. That the promise is kept is a clause, here and below, as in `carry_out`.
     pub fn answer<'a>(
         &mut self,
         heap: Global,

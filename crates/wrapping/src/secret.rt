@@ -28,11 +28,12 @@ fn residue<const LAST: u16>(x: i32) -> u16
     x.rem_euclid(LAST as i32 + 1) as u16
 }
 
-// Writes the residues of a row modulo LAST + 1, at the places that both rows have.
+// Writes the residues of a row modulo LAST + 1, at the places that both rows have. Four such loops in this crate and no function that
+// takes the step: its contract would have to say of the step what each loop says of itself.
 pub fn reduce<const LAST: u16>(row: &[i16], out: &mut [u16])
     ensures { out.new ≡ over (reduced_row (LAST + 1) row.now) out.old }
 {
-    // A proof learns nothing of what a `zip` over `iter_mut` writes, so each place is written by its index.
+    // A proof learns nothing of what a `zip` over `iter_mut` writes, so each place is written by its index, here and below.
     for (i, &x) in row.iter().enumerate().take(out.len()) {
         out[i] = residue::<LAST>(x as i32);
     }
