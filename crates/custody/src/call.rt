@@ -1,4 +1,5 @@
-// The calls of a station with their arguments, and what they answer where they are obeyed.
+// The calls of a station with their arguments, and what they answer where they are obeyed. A deposit's width, noise and message are in no
+// struct of their own: each call has its arguments in its variant, and three inner functions pass these on.
 use crate::holding::Holding;
 
 #[derive(Clone, Copy)]

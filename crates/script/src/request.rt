@@ -1,4 +1,6 @@
 // The nine calls of a station as a script asks for them.
+// The heap, the words and the degree go down to what reads an argument, here and in commands and tasks; in one struct they would be taken
+// apart at each of these calls.
 ghost use Rattle.std.specs.Prelude.{◌≡◌};
 ghost use Rattle.reading.specs.Arguments.{leaving};
 ghost use Rattle.reading.specs.Lines.{words_left};

@@ -78,7 +78,7 @@ pub fn unseal<Q: RingEngine>(
     Ok(())
 }
 
-// The width that an engine of degree n and modulus m goes on with: 1, 11.
+// The width that an engine of degree n and modulus m goes on with: 1, 11. Its second half is that of `places`, which does not stand on this crate.
 fn suited(lowest: u32, wanted: u16, n: usize, m: u16, width: u32) -> Result<Width, Refusal>
     requires { 8 ≤ lowest }
     ensures { bits_of result ≡ suited_of lowest wanted n m width }
