@@ -1,5 +1,5 @@
 -- The laws of folds, for every radius.
-use Rattle.std.proofs.Common.{◌≡◌, ℕ, suc, ◌+◌, ◌-◌, ◌*◌, ◌^◌, ◌<◌, ◌≤◌, ltb, ℤ, pos, negsuc, ◌+ℤ◌, ◌-ℤ◌, neg_ℤ, nat_abs, ◌≤ℤ◌, ◌<ℤ◌, sym, ap, ◌∙◌, subst, inl, inr, mod-lt, suc-mul, add-mul, one-mul, pow-suc, arith, pow_pos}
+use Rattle.std.proofs.Common.{◌≡◌, ℕ, suc, ◌+◌, ◌-◌, ◌*◌, ◌^◌, ◌<◌, ◌≤◌, ltb, ℤ, pos, negsuc, ◌+ℤ◌, ◌-ℤ◌, neg_ℤ, nat_abs, ◌≤ℤ◌, ◌<ℤ◌, sym, ap, ◌∙◌, subst, inl, inr, mod-lt, suc-mul, add-mul, one-mul, pow-suc, arith, pow_pos, pow_mono}
 use Rattle.std.specs.Int.{int_rem_euclid}
 use Rattle.std.proofs.lemmas.Int.{ints, by_lt_z}
 use Rattle.std.proofs.lemmas.Bool.{cond_both, cond-true, cond-false, lt-ltb, le-ltb, ltb-true, ltb-false, cases_order}
@@ -12,12 +12,24 @@ pub radius-pos : (w : ℕ) → 0 < radius w
 unfolding radius
 radius-pos w = pow_pos (w - 1)
 
+pub radius-low : (w : ℕ) → 8 ≤ w → 128 ≤ radius w
+unfolding radius
+radius-low w h = pow_mono {i = 7} {j = w - 1} (omega arith)
+
+pub radius-high : (w : ℕ) → w ≤ 11 → radius w ≤ 1024
+unfolding radius
+radius-high w h = pow_mono {i = w - 1} {j = 10} (omega arith)
+
 pub radius_twice : (w : ℕ) → 0 < w → radius w + radius w ≡ 2 ^ w
 unfolding radius
 radius_twice w h = omega (arith, ap (λ (e : ℕ). 2 ^ e) next, pow-suc 2 (w - 1))
   where
     next : suc (w - 1) ≡ w
     next = omega arith
+
+pub radius-next : (w : ℕ) → 0 < w → radius (w + 1) ≡ radius w + radius w
+unfolding radius
+radius-next w h = ap (λ (e : ℕ). 2 ^ e) (omega arith) ∙ sym (radius_twice w h)
 
 -- ---- the remainder
 pub rest_below : (r : ℕ) (z : ℤ) → 0 < r → rest r z < r + r

@@ -1,10 +1,10 @@
 -- The greatest of finitely many numbers, and the farthest octet.
-use Rattle.std.proofs.Common.{◌≡◌, ℕ, zero, suc, ◌+◌, ◌/◌, ◌<◌, ◌≤◌, max, List, [], ◌∷◌, map, length, ℤ, refl, ap, ◌∙◌, ap₂, inl, inr, arith}
+use Rattle.std.proofs.Common.{◌≡◌, ℕ, zero, suc, ◌+◌, ◌/◌, ◌<◌, ◌≤◌, max, List, [], ◌∷◌, map, length, ℤ, refl, ap, ◌∙◌, subst, ap₂, inl, inr, arith}
 use Rattle.std.specs.List.{range_with_len, fold, reduce}
 use Rattle.std.specs.Option.{unwrap_or}
 use Rattle.std.proofs.lemmas.List.FromFn.{map-range_with_len_more}
 use Rattle.std.proofs.lemmas.List.Sums.{fold-append}
-use Rattle.std.proofs.lemmas.Bool.{cases_eq}
+use Rattle.std.proofs.lemmas.Bool.{cases_eq, cases_lt}
 use Rattle.code.specs.Distances.{distance}
 use Rattle.code.specs.Messages.{number}
 use Rattle.code.specs.Rows.{octet, greatest, farthest}
@@ -47,6 +47,34 @@ pub greatest-below : (f : ℕ → ℕ) (n b : ℕ) → ((i : ℕ) → i < n → 
 unfolding greatest
 greatest-below f zero b h = omega arith
 greatest-below f (suc n) b h = omega (arith, h n (omega arith), greatest-below f n b (λ i l. h i (omega arith)))
+
+-- one number more
+pub greatest-more : (f : ℕ → ℕ) (n d : ℕ) → d ≡ max (greatest f n) (f n) → d ≡ greatest f (n + 1)
+unfolding greatest
+greatest-more f n d e = e ∙ ap (greatest f) next
+  where
+    next : suc n ≡ n + 1
+    next = omega arith
+
+-- what holds of 0 and of each holds of the greatest
+greatest_holds : (P : ℕ → Type 0) (f : ℕ → ℕ) (n : ℕ) → P 0 → ((i : ℕ) → i < n → P (f i)) → P (greatest f n)
+unfolding greatest
+greatest_holds P f zero z h = z
+greatest_holds P f (suc n) z h =
+    elim (cases_lt (greatest f n) (f n)) [
+      | inl l ↦ subst P (right (greatest f n) (f n) l) (h n (omega arith))
+      | inr l ↦ subst P (left (greatest f n) (f n) l) (greatest_holds P f n z (λ i m. h i (omega arith)))
+    ]
+  where
+    right : (x y : ℕ) → x < y → y ≡ max x y
+    right x y l = omega arith
+
+    left : (x y : ℕ) → y ≤ x → x ≡ max x y
+    left x y l = omega arith
+
+pub farthest_holds : (P : ℕ → Type 0) (w : ℕ) (v : List ℤ) (message : List ℕ) → P 0 → ((i : ℕ) → i < length v / 8 → P (distance w (octet v i) (number message i))) → P (farthest w v message)
+unfolding farthest
+farthest_holds P w v message z h = greatest_holds P (λ i. distance w (octet v i) (number message i)) (length v / 8) z h
 
 pub farthest-above : (w : ℕ) (v : List ℤ) (message : List ℕ) (i : ℕ) → i < length v / 8 → distance w (octet v i) (number message i) ≤ farthest w v message
 unfolding farthest

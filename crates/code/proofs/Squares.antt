@@ -4,6 +4,10 @@ use Rattle.std.proofs.lemmas.Bool.{cases_lt}
 use Rattle.code.specs.Distances.{squares, sums}
 use Rattle.code.proofs.FoldLaws.{unsigned_abs_sum}
 
+-- (x + d) squared
+pub sq_add : (x d : ℕ) → (x + d) * (x + d) ≡ x * x + 2 * (x * d) + d * d
+sq_add x d = omega arith
+
 -- 2 x y ≤ x² + y²
 pub means : (x y : ℕ) → 2 * (x * y) ≤ x * x + y * y
 means x y =

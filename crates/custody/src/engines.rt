@@ -11,4 +11,18 @@ impl<P, Q> Station<P, Q> {
     {
         &self.engines
     }
+
+    // The engine modulo 3457.
+    pub fn field(&self) -> &P
+        ensures { result.now ≡ self.now.engines.field }
+    {
+        &self.engines.field
+    }
+
+    // The engine modulo 2048.
+    pub fn binary(&self) -> &Q
+        ensures { result.now ≡ self.now.engines.binary }
+    {
+        &self.engines.binary
+    }
 }

@@ -43,9 +43,21 @@ module _ {C : Type 0} (R : CommRing C) where
       ∙ set-append_seam low R.zero [] R.one
       ∙ ap (λ w. set (unit R n) (n / 2) w ++ (R.one ∷ [])) (y-is ∙ ap (λ w. R.add w (R.neg R.one)) x-at)
 
-  -- a row with a zero after it
-  pub padded : (f row : List C) (z : C) → length row ≡ length f + 1 → z ≡ R.zero → set (f ++ drop (length f) row) (length f) z ≡ f ++ zeros R 1
-  padded f row z long z-is =
+  add_none : (target : List C) (k : C) → add_into R target k [] ≡ target
+  unfolding add_into
+  add_none [] k = refl
+  add_none (x ∷ target) k = refl
+
+  -- a row with k zeros after it
+  pub padded : (f : List C) (m k : ℕ) → m ≡ length f + k → add_into R (zeros R m) R.one f ≡ f ++ zeros R k
+  unfolding add_into
+  padded [] m k e = add_none (zeros R m) R.one ∙ ap (zeros R) (omega arith)
+  padded (x ∷ f) zero k e = absurd (omega arith)
+  padded (x ∷ f) (suc m) k e = cons_eq (scalar.zero-add R _ ∙ scalar.one-mul R x) (padded f m k (omega arith))
+
+  -- a row with a zero after it, by a copy and one write
+  pub padded_by_copy : (f row : List C) (z : C) → length row ≡ length f + 1 → z ≡ R.zero → set (f ++ drop (length f) row) (length f) z ≡ f ++ zeros R 1
+  padded_by_copy f row z long z-is =
       let e : drop (length f) row ≡ get_or row (length f) z ∷ [] =
       drop-cons row (length f) z (omega arith) ∙ ap {B = List C} (λ w. get_or row (length f) z ∷ w) (drop_of_length-le row {i = suc (length f)} (omega arith)) in
       ap (λ w. set (f ++ w) (length f) z) e ∙ set-append_seam f (get_or row (length f) z) [] z ∙ ap {B = List C} (λ w. f ++ (w ∷ [])) z-is

@@ -13,6 +13,20 @@ impl<P, Q> Draft<P, Q> {
         &self.engines
     }
 
+    // The engine modulo 3457.
+    pub fn field(&self) -> &P
+        ensures { result.now ≡ self.now.engines.field }
+    {
+        &self.engines.field
+    }
+
+    // The engine modulo 2048.
+    pub fn binary(&self) -> &Q
+        ensures { result.now ≡ self.now.engines.binary }
+    {
+        &self.engines.binary
+    }
+
     // Gives up the draft for its key and its engines.
     pub fn into_parts(self) -> (Key, Engines<P, Q>)
         ensures { result ≡ (self.key, self.engines) }

@@ -1,8 +1,12 @@
 -- What follows from what a reader answers.
 use Rattle.std.proofs.Common.{◌≡◌, ℕ, ◌+◌, ◌-◌, ◌*◌, ◌%◌, ◌^◌, ◌<◌, ◌≤◌, Ok, Err, ap, mul-le-mul_right, arith}
 use Rattle.std.proofs.lemmas.Bool.Decides.{nat_tests}
+use Rattle.ring.specs.declared.refusal.Refusal.TheVariants.{Length}
 use Rattle.ring.specs.declared.refusal.Refusal.{Refusal}
-use Rattle.packing.specs.Answers.{taken}
+use Rattle.packing.specs.Answers.{enough_answer, taken}
+
+pub enough_short : (w left : ℕ) → left < w → Err Length ≡ enough_answer w left
+enough_short w left short = grind (arith, nat_tests)
 
 pub taken_is : (w left n x : ℕ) → Ok x ≡ taken w left n → x ≡ n % 2 ^ w
 taken_is w left n x e = grind (arith, nat_tests)

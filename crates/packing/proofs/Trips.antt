@@ -15,6 +15,10 @@ pub length-unpacked : (w count : ℕ) (bytes : List ℕ) → length (unpacked w 
 unfolding unpacked
 length-unpacked w count bytes = length_digits _ _ _
 
+pub packed-below : (w : ℕ) (row : List ℕ) → all_below 256 (packed w row) ≡ true
+unfolding packed
+packed-below w row = digits-below _ _ _ (omega arith)
+
 pub unpacked-below : (w count : ℕ) (bytes : List ℕ) → all_below (2 ^ w) (unpacked w count bytes) ≡ true
 unfolding unpacked
 unpacked-below w count bytes = digits-below _ _ _ (pow_pos w)

@@ -2,6 +2,7 @@
 ghost use Rattle.std.specs.Prelude.{◌≡◌, ◌≤◌, Ok, Err, MatchResult};
 ghost use Rattle.packing.specs.Answers.{width_answer};
 
+use crate::bits::reading::check_width;
 use ring::refusal::Refusal;
 
 // A width of 8 to 12 bits.
@@ -17,9 +18,7 @@ impl TryFrom<u32> for Narrow {
     ghost try_from_gives = { λ bits r. MatchResult r (λ w. (w.bits ≡ bits) × (width_answer bits ≡ Ok tt)) (λ e. width_answer bits ≡ Err e) };
 
     fn try_from(bits: u32) -> Result<Self, Refusal> {
-        if !(8..=12).contains(&bits) {
-            return Err(Refusal::Width);
-        }
+        check_width(bits)?;
         Ok(Narrow { bits })
     }
 }

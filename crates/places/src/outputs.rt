@@ -26,5 +26,7 @@ pub fn publish(key: &Key, out: &mut [u8]) -> Result<(), Refusal>
     ensures writes { out.new ≡ written result (λ _. packed 12 (h_of key.now)) out.old }
 {
     let n = key.degree;
-    keys::pack_key(n, &key.h[0..n], out)
+    // A copy, since the tests of a row of one's own take less time than those of a row that is lent.
+    let h = key.h;
+    keys::pack_key(n, &h[0..n], out)
 }

@@ -1,5 +1,6 @@
 pub mod Stepping
 pub mod Cutting
+pub mod Counting
 pub mod Parsing
 pub mod Pairing
 pub mod Seeking

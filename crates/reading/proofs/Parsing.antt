@@ -7,12 +7,12 @@ use Rattle.std.proofs.lemmas.Str.Ascii.{IsAscii-nil, IsAscii-cons}
 use Rattle.std.proofs.lemmas.Str.Parse.{digit_from_value, numerals_by_value, tells_digits, IsNumeralModel, parse_plain, parse_plus, parse_signed_plain, parse_signed_plus, parse_signed_minus}
 use Rattle.std.specs.Char.{digit_value}
 use Rattle.std.specs.Str.{IsAscii, IsUtf8}
-use Rattle.std.specs.Str.Parse.{AllDigits, digits_value, digits_value_after, ParsesUnsigned, ParsesSigned, ExplainsUnsignedError, ExplainsSignedError, HasUnsignedDigitsIfOk, HasSignedDigitsIfOk}
-use Rattle.std.specs.declared.num.ParseIntError.{ParseIntError}
+use Rattle.std.specs.Str.Parse.{AllDigits, digits_value, digits_value_after}
 use mir.Val.{hbits}
 use Rattle.reading.specs.declared.fault.Unread.{Unread}
 use Rattle.reading.specs.declared.fault.Unread.TheVariants.{Number}
 use Rattle.reading.specs.Numerals.{one_more, more_digits, digits_of, after_sign, unsigned_of, signed_of}
+use Rattle.reading.specs.Parses.{GivesUnsigned, GivesSigned, Parsed}
 use Rattle.reading.specs.Steps.{then}
 
 -- the answer is v where P holds, and else no number
@@ -110,10 +110,6 @@ signed_utf8 : (text : List ℕ) → get_or text 0 0 < 128 → AllDigits 10 (drop
 signed_utf8 [] low digits = IsUtf8-from_ascii [] IsAscii-nil
 signed_utf8 (code ∷ text) low digits = IsUtf8-from_ascii (code ∷ text) (IsAscii-cons code text low (digits_ascii text digits))
 
--- what std gives for a text that is text, as the answer for the bytes
-abbrev pub Parsed : {T E : Type 0} → (List ℕ → Result T E → Type 0) → List ℕ → Result T Unread → Type 0
-Parsed {T} {E} gives text r = MatchResult r (λ n. gives text (Ok n)) (λ e. (e ≡ Number) × (¬ (IsUtf8 text) ⊎ ((error : E) × gives text (Err error))))
-
 agrees : {T E : Type 0} (gives : List ℕ → Result T E → Type 0) (text : List ℕ) {P : Type 0} (v : T)
     → ((q : Result T E) → gives text q → OkIff q P v) → (P → IsUtf8 text)
     → (r s : Result T Unread) → Parsed gives text r → Reads s P v → r ≡ s
@@ -124,10 +120,6 @@ agrees gives text v means utf8 (Err e) (Err d) h k = ap Err (h.0 ∙ sym k.1)
 
 pub own : IsNumeralModel (AllDigits 10) (digits_value 10)
 own = numerals_by_value (AllDigits 10) tells_digits
-
--- what std gives for an unsigned number of k bits
-abbrev GivesUnsigned : ℕ → List ℕ → Result ℕ ParseIntError → Type 0
-GivesUnsigned k bs q = ParsesUnsigned k 10 bs q × ExplainsUnsignedError 10 bs q × HasUnsignedDigitsIfOk bs q
 
 module _ (k most : ℕ) (bits : (n : ℕ) → (n ≤ most → n < 2 ^ k) × (n < 2 ^ k → n ≤ most)) where
   within : (ds : List ℕ) → Reads (digits_of most ds) (AllDigits 10 ds × (0 < length ds) × (digits_value 10 ds < 2 ^ k)) (digits_value 10 ds)
@@ -146,10 +138,6 @@ module _ (k most : ℕ) (bits : (n : ℕ) → (n ≤ most → n < 2 ^ k) × (n <
       agrees (GivesUnsigned k) text (digits_value 10 text) (λ q g. parse_plain own k text q g.0 none) (λ p. IsUtf8-from_ascii text (digits_ascii text p.0))
       r (unsigned_of most text) h (rw e (within text)))
       (cases_eq (get_or text 0 0) 43)
-
--- what std gives for a signed number of 32 bits
-abbrev GivesSigned : List ℕ → Result ℤ ParseIntError → Type 0
-GivesSigned bs q = ParsesSigned w32 10 bs q × ExplainsSignedError 10 bs q × HasSignedDigitsIfOk bs q
 
 below : (ds : List ℕ) → Reads (digits_of 2147483647 ds) (AllDigits 10 ds × (0 < length ds) × (digits_value 10 ds < 2 ^ hbits w32)) (digits_value 10 ds)
 below ds = within 31 2147483647 (λ n. (λ h. omega arith, λ h. omega arith)) ds

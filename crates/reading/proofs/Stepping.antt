@@ -1,7 +1,14 @@
 -- What is read step by step.
-use Rattle.std.proofs.Common.{◌≡◌, List, [], ◌∷◌, ◌++◌, IsErrAnd, Ok, Err, Result, sym, refl, ap, ◌∙◌, append_assoc}
+use Rattle.std.proofs.Common.{◌≡◌, ℕ, List, [], ◌∷◌, ◌++◌, IsErrAnd, Ok, Err, Result, sym, refl, ap, ◌∙◌, append_assoc, arith}
 use Rattle.std.proofs.lemmas.Result.{err_from_is_err_and}
 use Rattle.reading.specs.Steps.{then, seen}
+
+-- what went well went well at each step
+pub then_ok : {X Y E : Type 0} (r : Result X E) (rest : X → Result Y E) (y : Y) → then r rest ≡ Ok y → (x : X) × (r ≡ Ok x) × (rest x ≡ Ok y)
+then_ok (Ok x) rest y e = (x, refl, e)
+then_ok (Err d) rest y e =
+    let never : ◌≡◌ {A = ℕ} 0 1 = cc in
+    absurd (omega arith)
 
 -- what the exit of a `?` returns, where it hands the fault on as a given one
 pub handed_on : {X E : Type 0} {e : E} (r : Result X E) → IsErrAnd r (λ d. d ≡ e) → r ≡ Err e

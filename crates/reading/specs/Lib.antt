@@ -11,3 +11,4 @@ pub mod Rows
 pub mod Lengths
 pub mod Arguments
 pub mod Laws
+pub mod Parses

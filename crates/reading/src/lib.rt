@@ -11,4 +11,5 @@ pub mod numbers;
 mod pieces;
 pub mod rows;
 pub mod spaces;
+pub mod text;
 pub mod words;

@@ -1,39 +1,91 @@
 // Numbers in decimal digits.
-ghost use Rattle.std.specs.Prelude.{◌≡◌, ◌⊎◌, Ok, Err, MatchResult};
-ghost use Rattle.std.specs.Str.{IsUtf8};
-ghost use Rattle.reading.specs.Numerals.{number_of, width_of, signed_of};
+ghost use Rattle.std.specs.Prelude.{◌≡◌, ◌≤◌, pos, neg_ℤ};
+ghost use Rattle.std.specs.Option.{option_map};
+ghost use Rattle.reading.specs.Numerals.{one_more, digits_of, after_sign, unsigned_of, number_of, width_of, signed_of};
 
 use crate::fault::Unread;
-use std::str;
-use std::str::FromStr;
 
-// A number as std parses it; a text that it cannot parse, or that is no text, is no number.
-fn parsed<T: FromStr>(text: &[u8]) -> Result<T, Unread>
-where
-    T::Err: Drop,
-    ensures { MatchResult result (λ n. T.from_str_gives text.now (Ok n)) (λ e. (e ≡ Unread.Number) × (¬ (IsUtf8 text.now) ⊎ ((error : T.Err) × T.from_str_gives text.now (Err error)))) }
+// How large a number with a sign may be, above zero and below.
+const MOST_ABOVE: usize = 2147483647;
+
+const MOST_BELOW: usize = 2147483648;
+
+// The number with one more digit, where it is at most `most`.
+fn appended(value: usize, code: u8, most: usize) -> Result<usize, Unread>
+    ensures { result ≡ one_more most value code }
 {
-    let text = str::from_utf8(text).map_err(|_| Unread::Number)?;
-    text.parse().map_err(|_| Unread::Number)
+    if code < b'0' || code > b'9' {
+        return Err(Unread::Number);
+    }
+    let next = value as u128 * 10 + (code - b'0') as u128;
+    if next > most as u128 {
+        return Err(Unread::Number);
+    }
+    Ok(next as usize)
 }
 
-// A number without sign; a plus may stand before it.
+// The number that one digit or more write, where it is at most `most`.
+fn digits(text: &[u8], most: usize) -> Result<usize, Unread>
+    ensures { result ≡ digits_of most text.now }
+{
+    if text.is_empty() {
+        return Err(Unread::Number);
+    }
+    let mut value = 0;
+    for code in text {
+        value = appended(value, *code, most)?;
+    }
+    Ok(value)
+}
+
+// What follows a sign, where the text begins with it.
+fn after(text: &[u8], sign: u8) -> Option<&[u8]>
+    ensures { option_map (λ x. x.now) result ≡ after_sign sign text.now }
+{
+    if !text.is_empty() && text[0] == sign {
+        return Some(&text[1..]);
+    }
+    None
+}
+
+// A number that is at most `most`; a plus may stand before it.
+fn unsigned(text: &[u8], most: usize) -> Result<usize, Unread>
+    ensures { result ≡ unsigned_of most text.now }
+{
+    match after(text, b'+') {
+        Some(rest) => digits(rest, most),
+        None => digits(text, most),
+    }
+}
+
+// A number without sign.
 pub fn number(text: &[u8]) -> Result<usize, Unread>
     ensures { result ≡ number_of text.now }
 {
-    parsed(text)
+    unsigned(text, usize::MAX)
 }
 
-// A width in bits; a plus may stand before it.
+// A width in bits.
 pub fn width(text: &[u8]) -> Result<u32, Unread>
     ensures { result ≡ width_of text.now }
 {
-    parsed(text)
+    Ok(unsigned(text, u32::MAX as usize)? as u32)
+}
+
+// The number of that size below zero.
+fn negative(size: usize) -> i32
+    requires { size ≤ 2147483648 }
+    ensures { result ≡ neg_ℤ (pos size) }
+{
+    -(size as i64) as i32
 }
 
 // A number of 32 bits; a plus or a minus may stand before it.
 pub(crate) fn signed(text: &[u8]) -> Result<i32, Unread>
     ensures { result ≡ signed_of text.now }
 {
-    parsed(text)
+    match after(text, b'-') {
+        Some(rest) => Ok(negative(digits(rest, MOST_BELOW)?)),
+        None => Ok(unsigned(text, MOST_ABOVE)? as i32),
+    }
 }

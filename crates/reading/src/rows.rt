@@ -1,6 +1,7 @@
 // A row as a script writes it: `[LENGTH/]TERM,TERM..`, where a term is a value for the next place,
 // `PLACE:VALUE`, or `*:VALUE` for every place, and `-` is all zero.
 ghost use Rattle.std.specs.Prelude.{◌≡◌, length, replicate, if◌then◌else◌, Ok, Err, vec_items, nat_lt, slice_set};
+ghost use Rattle.reading.specs.Coefficients.{natural, whole};
 ghost use Rattle.reading.specs.Cuts.{cuts, parts_of};
 ghost use Rattle.reading.specs.Memory.{faulty, Spared};
 ghost use Rattle.reading.specs.Rows.{put_at, term_of, terms_of, head_of, row_of, each, row_by, comma};
@@ -112,4 +113,18 @@ pub fn read<C: Coefficient + Drop>(
 {
     let row = numbers_of(heap, text, degree)?;
     narrowed(heap, row.as_slice())
+}
+
+// A row of coefficients without sign.
+pub fn unsigned(heap: Global, text: &[u8], degree: usize) -> Result<Vec<u16>, Fault>
+    ensures { Spared (seen vec_items result) (faulty (row_by natural degree text.now)) }
+{
+    read(heap, text, degree)
+}
+
+// A row of coefficients with sign.
+pub fn signed(heap: Global, text: &[u8], degree: usize) -> Result<Vec<i16>, Fault>
+    ensures { Spared (seen vec_items result) (faulty (row_by whole degree text.now)) }
+{
+    read(heap, text, degree)
 }

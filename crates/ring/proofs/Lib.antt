@@ -11,6 +11,7 @@ pub mod Homs
 pub mod Images
 pub mod Residues
 pub mod Theorem
+pub mod Below
 pub mod Fronts
 pub mod Inverses
 pub mod WholeProducts

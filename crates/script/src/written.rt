@@ -1,7 +1,7 @@
 // Bytes and rows as they are written.
-ghost use Rattle.std.specs.Prelude.{◌≡◌, ◌<◌};
+ghost use Rattle.std.specs.Prelude.{◌≡◌, ◌<◌, ◌++◌};
 ghost use Rattle.std.specs.Fmt.{WritesOnOk};
-ghost use Rattle.script.specs.Written.{byte_digits, digit_code as code_of, hex_of, row_text};
+ghost use Rattle.script.specs.Written.{byte_digits, digit_code as code_of, hex_of, row_text, term_text};
 
 use std::fmt;
 
@@ -42,6 +42,22 @@ pub fn bytes<W: fmt::Write>(values: &[u8], f: &mut fmt::Formatter<W>) -> fmt::Re
     Ok(())
 }
 
+// Writes a term with what stands before it. Where that is nothing, nothing is written for it, since a writer sees each piece.
+fn term<W: fmt::Write>(
+    separator: &str,
+    place: usize,
+    value: u16,
+    f: &mut fmt::Formatter<W>,
+) -> fmt::Result
+    ensures { WritesOnOk W.write_str_gives f.old result (separator.now ++ term_text place value) f.new }
+{
+    if separator.is_empty() {
+        write!(f, "{place}:{value}")
+    } else {
+        write!(f, "{separator}{place}:{value}")
+    }
+}
+
 // Writes a row as `PLACE:VALUE` for each place that is not zero, or `-` where all are.
 pub(crate) fn row<W: fmt::Write>(values: &[u16], f: &mut fmt::Formatter<W>) -> fmt::Result
     ensures { WritesOnOk W.write_str_gives f.old result (row_text values.now) f.new }
@@ -51,7 +67,7 @@ pub(crate) fn row<W: fmt::Write>(values: &[u16], f: &mut fmt::Formatter<W>) -> f
         if *value == 0 {
             continue;
         }
-        write!(f, "{separator}{place}:{value}")?;
+        term(separator, place, *value, f)?;
         separator = ",";
     }
     if separator.is_empty() {

@@ -13,7 +13,9 @@ use ring::refusal::Refusal;
 pub fn check_width(width: u32) -> Result<(), Refusal>
     ensures { result ≡ width_answer width }
 {
-    Narrow::try_from(width)?;
+    if !(8..=12).contains(&width) {
+        return Err(Refusal::Width);
+    }
     Ok(())
 }
 

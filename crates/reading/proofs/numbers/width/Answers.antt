@@ -1,6 +1,8 @@
-use Rattle.std.proofs.Common.{arith}
-use Rattle.reading.proofs.Parsing.{unsigned_parsed}
+use Rattle.std.proofs.Common.{sym, arith}
+use Rattle.reading.proofs.Counting.{digits_within}
 use Rattle.reading.proofs.numbers.width.Goals as goal
 
-pub returns : goal.returns
-returns c = unsigned_parsed 32 4294967295 (λ n. (λ h. omega arith, λ h. omega arith)) c.args.text.now c.parsed.result c.parsed.ensures
+pub overflow_cast-result : goal.overflow_cast-result
+overflow_cast-result c =
+    let within = digits_within 4294967295 _ _ (sym c.in_ok-unsigned.ensures) in
+    omega arith

@@ -9,4 +9,4 @@ abbrev pub invariant-loop-place : goal.invariant-loop-place
 invariant-loop-place g l =
     shadow (Utf8 l.separator)
     × ((first : Bool) × (l.separator ≡ cond first [] (codes ","))
-    × Halfway g.W.Write.write_str_gives l.initial.f l.f (row_text l.values) (listed first (terms l.place-counter (drop l.place-counter l.values))))
+    × Halfway g.W.Write.write_str_gives l.initial.f l.f (row_text l.values) (listed first (terms l.place (drop l.place l.values))))

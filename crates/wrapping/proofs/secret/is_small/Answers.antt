@@ -1,13 +1,23 @@
-use Rattle.std.proofs.Common.{◌&&◌, leb, nat_abs, refl, ◌∙◌, rules, tests}
-use Rattle.std.specs.List.{list_all}
-use Rattle.std.proofs.lemmas.Iterator.{YieldsList-from_slice}
-use Rattle.std.proofs.lemmas.Iterator.Search.{all_from_yields_List}
-use Rattle.std.proofs.lemmas.List.Recursion.{same_from_clauses}
+use Rattle.std.proofs.Common.{◌≡◌, ℕ, ◌+◌, ◌<◌, Bool, true, false, ◌&&◌, leb, List, length, get_or, drop, ℤ, pos, nat_abs, sym, ap, ◌∙◌, arith, w16, SFits, to_z, of_z, rules}
+use Rattle.std.proofs.lemmas.List.{at_drop_more, at_drop_all}
+use Rattle.std.proofs.lemmas.Int.{to_z-of_z}
 use Rattle.wrapping.specs.Secrets.{all_small}
 use Rattle.wrapping.proofs.secret.is_small.Goals as goal
 
+-- one coefficient more was looked at
+small-more : (row : List ℤ) (i : ℕ) (t : Bool) → i < length row → SFits w16 (get_or row i (pos 0)) → t ≡ leb (nat_abs (to_z w16 (of_z w16 (get_or row i (pos 0))))) 6
+    → all_small (drop i row) ≡ all_small row → (t && all_small (drop (i + 1) row)) ≡ all_small row
+small-more row i t within fits t-is so_far =
+    ap (λ s. s && all_small (drop (i + 1) row)) (t-is ∙ ap (λ z. leb (nat_abs z) 6) (to_z-of_z w16 (get_or row i (pos 0)) fits))
+    ∙ sym (at_drop_more all_small row i (pos 0) within) ∙ so_far
+
+pub returns-then-not-small : goal.returns-then-not-small
+returns-then-not-small c =
+    small-more c.args.row.now c.loop-x.x-index false c.loop-x-test.true (search rules) c.if-not-small.ensures c.loop-x.invariant
+
+pub loop-x-preserved : goal.loop-x-preserved
+loop-x-preserved c =
+    small-more c.args.row.now c.loop-x.x-index true c.loop-x-test.true (search rules) c.if-not-small.ensures c.loop-x.invariant
+
 pub returns : goal.returns
-returns c =
-    let row = c.args.row.now in
-    all_from_yields_List (λ z. leb (nat_abs z) 6) _ _ _ c.all.ensures.ran (YieldsList-from_slice row cc) (λ x b q k. search (rules, tests))
-    ∙ same_from_clauses (list_all (λ z. leb (nat_abs z) 6)) all_small (λ z t. leb (nat_abs z) 6 && t) refl (λ _ _. refl) (λ _ _. refl) row
+returns c = sym (at_drop_all all_small c.args.row.now c.loop-x.x-index (omega arith)) ∙ c.loop-x.invariant
