@@ -1,4 +1,5 @@
-// Numbers in decimal digits.
+// Numbers in decimal digits, by hand: std's `parse` takes a text, and to make one of bytes goes over all of them,
+// where these stop at the first that is no digit.
 ghost use Rattle.std.specs.Prelude.{◌≡◌, ◌≤◌, pos, neg_ℤ};
 ghost use Rattle.std.specs.Option.{option_map};
 ghost use Rattle.reading.specs.Numerals.{one_more, digits_of, after_sign, unsigned_of, number_of, width_of, signed_of};
