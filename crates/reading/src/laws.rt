@@ -1,4 +1,4 @@
-// What is written can be read, and the words of a text are texts.
+// What is written can be read, numbers are read as std parses them, and the words of a text are texts.
 ghost use Rattle.reading.specs.Laws.{NumbersReturn, WordsAreText};
 ghost use Rattle.reading.specs.Parses.{NumbersParse};
 
