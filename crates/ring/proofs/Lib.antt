@@ -12,6 +12,7 @@ pub mod Images
 pub mod Residues
 pub mod Theorem
 pub mod Below
+pub mod Searches
 pub mod Fronts
 pub mod Inverses
 pub mod WholeProducts

@@ -35,13 +35,8 @@ pub trait RingEngine {
 pub fn below(m: u16, row: &[u16]) -> bool
     ensures { result ≡ all_below m row.now }
 {
-    // A loop, which takes a third of the time of std's `all` here.
-    for x in row {
-        if *x >= m {
-            return false;
-        }
-    }
-    true
+    // By the place of the first that is not: std's `all` and `any` take three times as long here.
+    row.iter().position(|x| *x >= m).is_none()
 }
 
 // The answer of an engine of degree n and modulus m to two operands and a buffer of some places.
