@@ -1,4 +1,4 @@
--- A search for an element that fails a test finds none where all pass it.
+-- The elements of a row all pass a test just where a search for one that fails finds none.
 use Rattle.std.proofs.Common.{◌≡◌, ℕ, suc, ◌+◌, Bool, true, false, not, cond, ltb, ◌&&◌, List, [], ◌∷◌, length, position, is_none, Some, None, refl, sym, ◌∙◌, arith}
 use Rattle.std.proofs.lemmas.Bool.{lt-ltb}
 use Rattle.std.proofs.lemmas.Bool.Decides.{nat_tests}
@@ -17,7 +17,7 @@ step : (b : Bool) (n l : ℕ) (t : Bool) → is_none (cond (ltb n l) (Some n) No
 step true n l t e = rw (lt-ltb 0 (suc l) (omega arith)) refl
 step false n l t e = rw (later n l) (either (ltb n l) n ∙ e)
 
--- F is your word for a row whose elements all pass
+-- F says whether all elements of a row pass
 pub none_fails : {A : Type 0} (fails : A → Bool) (F : List A → Bool) → F [] ≡ true → ((x : A) (xs : List A) → F (x ∷ xs) ≡ (not (fails x) && F xs))
     → (xs : List A) → is_none (position fails xs) ≡ F xs
 none_fails fails F none more [] = sym none

@@ -35,7 +35,7 @@ pub trait RingEngine {
 pub fn below(m: u16, row: &[u16]) -> bool
     ensures { result ≡ all_below m row.now }
 {
-    // By the place of the first that is not: std's `all` and `any` take three times as long here.
+    // `position` of the first number that is not, since std's `all` and `any` take four times as long here.
     row.iter().position(|x| *x >= m).is_none()
 }
 

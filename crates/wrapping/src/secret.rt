@@ -18,7 +18,7 @@ fn small(x: i16) -> bool
 pub fn is_small(row: &[i16]) -> bool
     ensures { result ≡ all_small row.now }
 {
-    // By the place of the first that is not: std's `all` takes five times as long here.
+    // `position` of the first coefficient that is not, since std's `all` takes six times as long here.
     row.iter().position(|x| !small(*x)).is_none()
 }
 
